@@ -1,0 +1,4 @@
+pub mod Circuits
+pub mod Run
+pub mod Wording
+pub mod Example

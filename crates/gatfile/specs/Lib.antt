@@ -1,0 +1,4 @@
+pub mod File
+pub mod Text
+pub mod Wording
+pub mod Example

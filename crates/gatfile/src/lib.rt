@@ -1,0 +1,1 @@
+// The circuit file: definitions alone so far, in specs/.

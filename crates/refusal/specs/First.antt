@@ -1,0 +1,104 @@
+-- Document 01, *Refusal numbers*: a call gives the lowest number that applies, 0 exactly when none applies; a refusal returns
+-- 0 in every other number and writes no buffer. The refusals of a call are a list of rows, a number with its test, in rising
+-- order (the circuit file alone has an order of its own), and the number of the first row that applies is given.
+use mathlib.Core.Path.{_≡_, refl, sym}
+use mathlib.Core.Logic.{_⊎_, inl, inr, ⊎-elim, _≢_}
+use mathlib.Core.Bool.{Bool, true, false, cond, _&&_, _||_}
+use mathlib.Core.List.{List, [], _∷_}
+use Prim.Native.Nat.{ℕ, zero, suc, _≤_, _<_}
+use native.Mathlib.Nat.{le-of-eq, le-of-lt, not-suc-le-zero, le-of-suc-le-suc}
+use native.Mathlib.Omega.{arith}
+use lib.Dec.{ltb}
+use Rattle.whole.specs.Tests.{and-left, and-right, clash}
+use lib.ListN.{getD}
+use borrow.Author.Tests.{ltb-true}
+
+-- a refusal number, and whether it applies
+pub record Row : Type 0 where
+  pub number : ℕ
+  pub applies : Bool
+
+abbrev pub row : ℕ → Bool → Row
+row k t = record { number = k; applies = t }
+
+-- the number of the first row that applies, 0 if none does
+unfoldable pub firstOf : List Row → ℕ
+firstOf [] = 0
+firstOf (r ∷ rows) = cond (r .applies) (r .number) (firstOf rows)
+
+-- what a call leaves: a where its number is 0, z where it refuses
+unfoldable pub doneOr : {A : Type 0} → ℕ → A → A → A
+doneOr zero a z = a
+doneOr (suc k) a z = z
+
+-- the place: the index of the first test that is true, and how many tests there are where none is
+unfoldable pub firstTrue : List Bool → ℕ
+firstTrue [] = 0
+firstTrue (t ∷ ts) = cond t 0 (suc (firstTrue ts))
+
+unfoldable pub someTrue : List Bool → Bool
+someTrue [] = false
+someTrue (t ∷ ts) = t || someTrue ts
+
+-- ---- the first row that applies is the lowest number that applies, where the numbers rise
+
+-- the numbers rise from above k
+unfoldable pub rising : ℕ → List Row → Bool
+rising k [] = true
+rising k (r ∷ rows) = ltb k (r .number) && rising (r .number) rows
+
+-- some row has the number k and applies
+abbrev pub Applies : List Row → ℕ → Type 0
+Applies [] k = ⊥
+Applies (r ∷ rows) k = ((r .applies ≡ true) × (r .number ≡ k)) ⊎ Applies rows k
+
+-- k is the lowest number that applies, and 0 exactly when none does
+pub record Lowest (rows : List Row) (k : ℕ) : Type 0 where
+  pub given : k ≢ 0 → Applies rows k
+  pub lowest : (j : ℕ) → Applies rows j → (0 < k) × (k ≤ j)
+
+above : (rows : List Row) (k j : ℕ) → rising k rows ≡ true → Applies rows j → k < j
+unfolding rising
+above [] k j up a = absurd a
+above (r ∷ rows) k j up a =
+    let h : k < r .number = ltb-true k (r .number) (and-left (ltb k (r .number)) (rising (r .number) rows) up) in
+    let later : Applies rows j → r .number < j = above rows (r .number) j (and-right (ltb k (r .number)) (rising (r .number) rows) up) in
+    ⊎-elim (λ here. omega (arith, here .1)) (λ there. omega (arith, later there)) a
+
+pub first-lowest : (rows : List Row) (k : ℕ) → rising k rows ≡ true → Lowest rows (firstOf rows)
+unfolding firstOf rising
+first-lowest [] k up = record { given = λ h. absurd (h refl); lowest = λ j a. absurd a }
+first-lowest (r ∷ rows) k up = by-test (r .applies) refl (first-lowest rows (r .number) rest-up)
+  where
+    rest-up : rising (r .number) rows ≡ true
+    rest-up = and-right (ltb k (r .number)) (rising (r .number) rows) up
+
+    positive : k < r .number
+    positive = ltb-true k (r .number) (and-left (ltb k (r .number)) (rising (r .number) rows) up)
+
+    by-test : (t : Bool) → r .applies ≡ t → Lowest rows (firstOf rows) → Lowest (r ∷ rows) (cond t (r .number) (firstOf rows))
+    by-test true e l =
+        record {
+          given = λ h. inl (e, refl);
+          lowest = λ j a. (omega (arith, positive), ⊎-elim (λ here. le-of-eq (here .1)) (λ there. le-of-lt (above rows (r .number) j rest-up there)) a);
+        }
+    by-test false e l =
+        record {
+          given = λ h. inr (l .given h);
+          lowest = λ j a. ⊎-elim (λ here. clash (here .0) e) (λ there. l .lowest j there) a;
+        }
+
+-- ---- the place is the first: there the test is true, and before it none is
+
+pub first-is-true : (ts : List Bool) → someTrue ts ≡ true → getD ts (firstTrue ts) false ≡ true
+unfolding firstTrue someTrue
+first-is-true [] e = e
+first-is-true (true ∷ ts) e = refl
+first-is-true (false ∷ ts) e = first-is-true ts e
+
+pub none-before-first : (ts : List Bool) (i : ℕ) → i < firstTrue ts → getD ts i false ≡ false
+unfolding firstTrue
+none-before-first [] i h = refl
+none-before-first (true ∷ ts) i h = absurd (not-suc-le-zero h)
+none-before-first (false ∷ ts) zero h = refl
+none-before-first (false ∷ ts) (suc i) h = none-before-first ts i (le-of-suc-le-suc h)

@@ -1,0 +1,110 @@
+-- Where a definition is not at once the sentence of document 01, a fact that shows that it is: the range of a residue, the
+-- places u·n+v of the tensor and i·n²+j of the switching key, and that the number given by each call is the lowest that applies.
+use mathlib.Core.Path.{_≡_, refl, sym, ap, _∙_}
+use mathlib.Core.Bool.{Bool, true}
+use mathlib.Core.List.{List, [], _∷_}
+use Prim.Native.Nat.{ℕ, _+_, _*_, _/_, _%_, _-_, _≤_, _<_}
+use native.Mathlib.Omega.{arith}
+use lib.IntN.{ℤ, pos, negℤ, _+ℤ_, _-ℤ_, _*ℤ_}
+use lib.Signed.{_≤ℤ_, _<ℤ_, leZ, ltZ}
+use lib.ListN.{length, getD, drop, List·getD-append}
+use lib.Seq.{drop-at}
+use lib.Arith.{digits-lt, digits-div, digits-mod}
+use Rattle.whole.specs.Tests.{and-left, and-right, and-both, leZ-true, ltZ-true, le-leZ, lt-ltZ}
+use Rattle.whole.specs.Split.{zarith, mul-is, up-neg, dn-neg}
+use Rattle.whole.specs.Centred.{Centred, centred, centred-is, centred-id}
+use Rattle.whole.specs.Lists.{all, getD-grid, getD-map, cut, length-cut, getD-cut-entry, tabulate, length-tabulate, getD-tabulate}
+use Rattle.whole.specs.Inner.{inner, column}
+use Rattle.refusal.specs.declared.Params.{Params}
+use Rattle.refusal.specs.First.{rising}
+use Rattle.scheme.specs.Arithmetic.{half, isResidue, tensorEntry, tensor, keyRows, maskColumn, rowZeroEntry, switchingKey}
+use Rattle.scheme.specs.Calls.{keyCheckRows, makeKeyRows, benchRows, encryptRows, decryptRows, xorRows, notRows, andRows}
+
+-- ---- residues
+
+pub residue-low : (q : ℕ) (x : ℤ) → isResidue q x ≡ true → negℤ (half q) ≤ℤ x
+unfolding isResidue
+residue-low q x r = leZ-true (negℤ (half q)) x (and-left (leZ (negℤ (half q)) x) (ltZ x (half q)) r)
+
+pub residue-high : (q : ℕ) (x : ℤ) → isResidue q x ≡ true → x <ℤ half q
+unfolding isResidue
+residue-high q x r = ltZ-true x (half q) (and-right (leZ (negℤ (half q)) x) (ltZ x (half q)) r)
+
+pub range-residue : (q : ℕ) (x : ℤ) → negℤ (half q) ≤ℤ x → x <ℤ half q → isResidue q x ≡ true
+unfolding isResidue
+range-residue q x low high = and-both (le-leZ (negℤ (half q)) x low) (lt-ltZ x (half q) high)
+
+-- [x]q lies in −q/2 to q/2−1, for every even q
+pub centred-residue : (q : ℕ) (x : ℤ) → 0 < q → q ≡ 2 * (q / 2) → isResidue q (centred q x) ≡ true
+centred-residue q x h even =
+    let c : Centred q x (centred q x) = centred-is q x h in
+    let r : ℤ = centred q x in
+    range-residue q r
+    (omega (zarith, c .low, mul-is (pos 2) r, up-neg (pos q), dn-neg (pos q), up-neg (half q), dn-neg (half q)))
+    (omega (zarith, c .high, mul-is (pos 2) r))
+
+-- and a number of that range is its own residue
+pub residue-centred : (q : ℕ) (x : ℤ) → 0 < q → q ≡ 2 * (q / 2) → isResidue q x ≡ true → centred q x ≡ x
+residue-centred q x h even r =
+    let low : negℤ (half q) ≤ℤ x = residue-low q x r in
+    let high : x <ℤ half q = residue-high q x r in
+    centred-id q x h
+    (omega (zarith, mul-is (pos 2) x, up-neg (pos q), dn-neg (pos q), up-neg (half q), dn-neg (half q)))
+    (omega (zarith, mul-is (pos 2) x))
+
+-- ---- places
+
+-- entry u·n+v of the tensor
+pub tensor-entry : (n q : ℕ) (c d : List ℤ) (u v : ℕ) (z : ℤ) → length c ≡ n → length d ≡ n → u < n → v < n
+    → getD (tensor q c d) (u * n + v) z ≡ tensorEntry q (getD c u z) (getD d v z)
+unfolding tensor
+tensor-entry n q c d u v z lc ld hu hv =
+    ap (λ (k : ℕ). getD (tensor q c d) (u * k + v) z) (sym ld)
+    ∙ getD-grid (tensorEntry q) c d u v z z z (omega arith) (omega arith)
+
+-- row i column j of a switching key lies at i·n²+j
+pub key-entry : (n : ℕ) (W : List ℤ) (i j : ℕ) (z : ℤ) → i < n → j < n * n → getD (getD (keyRows n W) i []) j z ≡ getD W (i * (n * n) + j) z
+unfolding keyRows
+key-entry n W i j z hi hj = getD-cut-entry (n * n) n W i j [] z hi hj
+
+-- mask row i lies at (i−1)·n²: the first of a mask column is of mask row 1
+pub mask-entry : (n : ℕ) (masks : List ℤ) (i j : ℕ) → i < n - 1 → j < n * n → getD (maskColumn n masks j) i (pos 0) ≡ getD masks (i * (n * n) + j) (pos 0)
+unfolding maskColumn column
+mask-entry n masks i j hi hj =
+    getD-map (λ row. getD row j (pos 0)) (cut (n * n) (n - 1) masks) i [] (pos 0) (rw length-cut hi)
+    ∙ getD-cut-entry (n * n) (n - 1) masks i j [] (pos 0) hi hj
+
+-- row 0, column u·n+v
+pub key-row-zero : (n q : ℕ) (s masks f : List ℤ) (u v : ℕ) (z : ℤ) → u < n → v < n
+    → getD (switchingKey n q s masks f) (u * n + v) z
+    ≡ centred (q * q) (pos q *ℤ getD s u (pos 0) *ℤ getD s v (pos 0) -ℤ inner (drop 1 s) (maskColumn n masks (u * n + v)) +ℤ getD f (u * n + v) (pos 0))
+unfolding switchingKey rowZeroEntry
+key-row-zero n q s masks f u v z hu hv =
+    let j : ℕ = u * n + v in
+    let inside : j < n * n = digits-lt hu hv in
+    List·getD-append (tabulate (n * n) (rowZeroEntry n q s masks f)) masks z j (rw length-tabulate inside)
+    ∙ getD-tabulate (n * n) (rowZeroEntry n q s masks f) j z inside
+    ∙ simp (digits-div u hv, digits-mod u hv)
+
+-- the rows below are the masks
+pub key-masks : (n q : ℕ) (s masks f : List ℤ) → drop (n * n) (switchingKey n q s masks f) ≡ masks
+unfolding switchingKey
+key-masks n q s masks f = drop-at (tabulate (n * n) (rowZeroEntry n q s masks f)) masks (n * n) (length-tabulate (n * n) (rowZeroEntry n q s masks f))
+
+-- ---- the lowest number that applies
+
+-- the rows of every call rise, so that `first-lowest` holds of each
+pub rows-rise : (p : Params) (s masks f a c d W scratch out : List ℤ) (b B1 B2 : ℕ) (e : ℤ)
+    → all (rising 0)
+    (keyCheckRows p s
+    ∷ makeKeyRows p s masks f out
+    ∷ benchRows s masks f
+    ∷ encryptRows p s b a e out
+    ∷ decryptRows p s c
+    ∷ xorRows p c B1 d B2 out
+    ∷ notRows p c B1 out
+    ∷ andRows p c B1 d B2 W scratch out
+    ∷ [])
+    ≡ true
+unfolding all rising keyCheckRows makeKeyRows benchRows encryptRows decryptRows xorRows notRows andRows
+rows-rise p s masks f a c d W scratch out b B1 B2 e = refl

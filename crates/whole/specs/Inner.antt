@@ -1,0 +1,202 @@
+-- Lists of whole numbers: the inner product <s,c>, the sum of the products entry by entry, and the sum of the sizes of a list.
+-- The inner product ends with the shorter list, as if it went on in zeros: most laws ask nothing of the lengths.
+use mathlib.Core.Path.{_≡_, refl, sym, ap, ap₂, _∙_}
+use mathlib.Core.List.{List, [], _∷_, _++_, map, map-map, flatMap, zipWith, zip}
+use Prim.Native.Nat.{ℕ, zero, suc, _+_, _*_, _≤_}
+use native.Mathlib.Nat.{mul-zero, mul-add, add-mul, mul-le-mul-left, suc-inj, le-of-suc-le-suc, not-suc-le-zero}
+use native.Mathlib.Omega.{arith}
+use lib.ListN.{length, getD, take, length-map}
+use lib.Seq.{take-nil}
+use lib.IntN.{ℤ, pos, _+ℤ_, _*ℤ_, +ℤ-idl, +ℤ-assoc, +ℤ-comm, zero-*ℤ, *ℤ-zero, *ℤ-comm, natAbs}
+use Rattle.whole.specs.Size.{size-add, size-mul}
+use Rattle.whole.specs.Laws.{sum-sort, *ℤ-distl, *ℤ-distr, *ℤ-assoc, *ℤ-left-comm}
+use Rattle.whole.specs.Lists.{tabulate, map-tabulate, Each, nil, cons, zipWith-zip, zipWith-first, zipWith-second, grid}
+
+-- <s,c> = s₀·c₀ + s₁·c₁ + ..
+unfoldable pub inner : List ℤ → List ℤ → ℤ
+inner [] c = pos 0
+inner (x ∷ s) [] = pos 0
+inner (x ∷ s) (y ∷ c) = x *ℤ y +ℤ inner s c
+
+-- s₀ + s₁ + ..
+unfoldable pub sum : List ℤ → ℤ
+sum [] = pos 0
+sum (x ∷ s) = x +ℤ sum s
+
+-- |s₀| + |s₁| + ..
+unfoldable pub sizes : List ℤ → ℕ
+sizes [] = 0
+sizes (x ∷ s) = natAbs x + sizes s
+
+-- entry j of each row, and 0 for a row that has none
+unfoldable pub column : ℕ → List (List ℤ) → List ℤ
+column j rows = map (λ row. getD row j (pos 0)) rows
+
+-- ---- the inner product
+
+-- it is the sum of the products
+pub inner-sum : (s c : List ℤ) → inner s c ≡ sum (zipWith _*ℤ_ s c)
+unfolding inner sum zipWith
+inner-sum [] c = refl
+inner-sum (x ∷ s) [] = refl
+inner-sum (x ∷ s) (y ∷ c) = ap (λ z. x *ℤ y +ℤ z) (inner-sum s c)
+
+-- <s,c> = <c,s>
+pub inner-comm : (s c : List ℤ) → inner s c ≡ inner c s
+unfolding inner
+inner-comm [] [] = refl
+inner-comm [] (y ∷ c) = refl
+inner-comm (x ∷ s) [] = refl
+inner-comm (x ∷ s) (y ∷ c) = ap₂ _+ℤ_ (*ℤ-comm x y) (inner-comm s c)
+
+-- with the empty list on the right it is 0
+pub inner-nil : (s : List ℤ) → inner s [] ≡ pos 0
+unfolding inner
+inner-nil [] = refl
+inner-nil (x ∷ s) = refl
+
+-- of lists joined at the same place
+pub inner-append : (s c s′ c′ : List ℤ) → length s ≡ length c → inner (s ++ s′) (c ++ c′) ≡ inner s c +ℤ inner s′ c′
+unfolding inner
+inner-append [] [] s′ c′ e = sym (+ℤ-idl (inner s′ c′))
+inner-append [] (y ∷ c) s′ c′ e = absurd (omega arith)
+inner-append (x ∷ s) [] s′ c′ e = absurd (omega arith)
+inner-append (x ∷ s) (y ∷ c) s′ c′ e = ap (λ z. x *ℤ y +ℤ z) (inner-append s c s′ c′ (suc-inj e)) ∙ sym (+ℤ-assoc (x *ℤ y) (inner s c) (inner s′ c′))
+
+-- one more entry
+pub inner-suc : (s c : List ℤ) (i : ℕ) → inner (take (suc i) s) (take (suc i) c) ≡ inner (take i s) (take i c) +ℤ getD s i (pos 0) *ℤ getD c i (pos 0)
+unfolding inner
+inner-suc [] c i = simp (take-nil, zero-*ℤ)
+inner-suc (x ∷ s) [] i = simp (take-nil, inner-nil, *ℤ-zero)
+inner-suc (x ∷ s) (y ∷ c) zero = +ℤ-comm (x *ℤ y) (pos 0)
+inner-suc (x ∷ s) (y ∷ c) (suc i) =
+    ap (λ z. x *ℤ y +ℤ z) (inner-suc s c i) ∙ sym (+ℤ-assoc (x *ℤ y) (inner (take i s) (take i c)) (getD s i (pos 0) *ℤ getD c i (pos 0)))
+
+-- ---- multiples and sums
+
+-- one entry of a multiple
+scale-step : (k x y r : ℤ) → x *ℤ (k *ℤ y) +ℤ k *ℤ r ≡ k *ℤ (x *ℤ y +ℤ r)
+scale-step k x y r = simp (*ℤ-distl, *ℤ-left-comm x k y)
+
+-- <s, k·c> = k·<s,c>
+pub inner-scale : (k : ℤ) (s c : List ℤ) → inner s (map (λ y. k *ℤ y) c) ≡ k *ℤ inner s c
+unfolding inner
+inner-scale k [] c = sym (*ℤ-zero k)
+inner-scale k (x ∷ s) [] = sym (*ℤ-zero k)
+inner-scale k (x ∷ s) (y ∷ c) = ap (λ z. x *ℤ (k *ℤ y) +ℤ z) (inner-scale k s c) ∙ scale-step k x y (inner s c)
+
+-- <k·s, c> = k·<s,c>
+pub inner-scale-left : (k : ℤ) (s c : List ℤ) → inner (map (λ x. k *ℤ x) s) c ≡ k *ℤ inner s c
+inner-scale-left k s c = inner-comm (map (λ x. k *ℤ x) s) c ∙ inner-scale k c s ∙ ap (λ z. k *ℤ z) (inner-comm c s)
+
+-- one entry of a sum
+add-step : (x a b q r : ℤ) → x *ℤ (a +ℤ b) +ℤ (q +ℤ r) ≡ (x *ℤ a +ℤ q) +ℤ (x *ℤ b +ℤ r)
+add-step x a b q r = simp *ℤ-distl (simp sum-sort)
+
+-- of maps over one list: zeros, a multiple, a sum
+module _ {ℓ} {A : Type ℓ} where
+  pub inner-map-zero : (s : List ℤ) (ps : List A) → inner s (map (λ p. pos 0) ps) ≡ pos 0
+  unfolding inner
+  inner-map-zero [] ps = refl
+  inner-map-zero (x ∷ s) [] = refl
+  inner-map-zero (x ∷ s) (p ∷ ps) = ap₂ _+ℤ_ (*ℤ-zero x) (inner-map-zero s ps)
+
+  pub inner-map-scale : (k : ℤ) (f : A → ℤ) (s : List ℤ) (ps : List A) → inner s (map (λ p. k *ℤ f p) ps) ≡ k *ℤ inner s (map f ps)
+  inner-map-scale k f s ps = ap (inner s) (sym (map-map (λ y. k *ℤ y) f ps)) ∙ inner-scale k s (map f ps)
+
+  pub inner-map-add : (f g : A → ℤ) (s : List ℤ) (ps : List A) → inner s (map (λ p. f p +ℤ g p) ps) ≡ inner s (map f ps) +ℤ inner s (map g ps)
+  unfolding inner
+  inner-map-add f g [] ps = refl
+  inner-map-add f g (x ∷ s) [] = refl
+  inner-map-add f g (x ∷ s) (p ∷ ps) =
+      ap (λ z. x *ℤ (f p +ℤ g p) +ℤ z) (inner-map-add f g s ps) ∙ add-step x (f p) (g p) (inner s (map f ps)) (inner s (map g ps))
+
+-- of two lists taken entry by entry: a sum
+pub inner-zipWith-add {ℓ κ} : {A : Type ℓ} {B : Type κ} (f g : A → B → ℤ) (s : List ℤ) (c : List A) (d : List B)
+    → inner s (zipWith (λ x y. f x y +ℤ g x y) c d) ≡ inner s (zipWith f c d) +ℤ inner s (zipWith g c d)
+inner-zipWith-add f g s c d = simp zipWith-zip (inner-map-add (λ p. f (p .0) (p .1)) (λ p. g (p .0) (p .1)) s (zip c d))
+
+-- <s, c + d> = <s,c> + <s,d>
+pub inner-zip-add : (s c d : List ℤ) → length c ≡ length d → inner s (zipWith _+ℤ_ c d) ≡ inner s c +ℤ inner s d
+inner-zip-add s c d e = inner-zipWith-add (λ x y. x) (λ x y. y) s c d ∙ rw (zipWith-first c d, zipWith-second c d)
+
+-- ---- all products of two lists
+
+-- <x·t, y·d> = x·y·<t,d>
+scale-both : (x y : ℤ) (t d : List ℤ) → inner (map (λ a. x *ℤ a) t) (map (λ b. y *ℤ b) d) ≡ x *ℤ y *ℤ inner t d
+scale-both x y t d = inner-scale-left x t (map (λ b. y *ℤ b) d) ∙ ap (λ z. x *ℤ z) (inner-scale y t d) ∙ sym (*ℤ-assoc x y (inner t d))
+
+-- <s⊗t, c⊗d> = <s,c>·<t,d>
+pub inner-grid : (s c t d : List ℤ) → length t ≡ length d → inner (grid _*ℤ_ s t) (grid _*ℤ_ c d) ≡ inner s c *ℤ inner t d
+unfolding inner grid flatMap
+inner-grid [] c t d e = sym (zero-*ℤ (inner t d))
+inner-grid (x ∷ s) [] t d e = inner-nil (grid _*ℤ_ (x ∷ s) t) ∙ sym (zero-*ℤ (inner t d))
+inner-grid (x ∷ s) (y ∷ c) t d e =
+    inner-append (map (λ a. x *ℤ a) t) (map (λ b. y *ℤ b) d) (grid _*ℤ_ s t) (grid _*ℤ_ c d) (simp length-map e)
+    ∙ ap₂ _+ℤ_ (scale-both x y t d) (inner-grid s c t d e)
+    ∙ sym (*ℤ-distr (x *ℤ y) (inner s c) (inner t d))
+
+-- ---- sizes
+
+-- of lists joined
+pub sizes-append : (s t : List ℤ) → sizes (s ++ t) ≡ sizes s + sizes t
+unfolding sizes
+sizes-append [] t = omega arith
+sizes-append (x ∷ s) t = omega (arith, sizes-append s t)
+
+-- one more entry
+pub sizes-suc : (s : List ℤ) (i : ℕ) → sizes (take (suc i) s) ≡ sizes (take i s) + natAbs (getD s i (pos 0))
+unfolding sizes
+sizes-suc [] i = simp take-nil
+sizes-suc (x ∷ s) zero = omega arith
+sizes-suc (x ∷ s) (suc i) = omega (arith, sizes-suc s i)
+
+-- of a multiple
+pub sizes-scale : (k : ℤ) (s : List ℤ) → sizes (map (λ x. k *ℤ x) s) ≡ natAbs k * sizes s
+unfolding sizes
+sizes-scale k [] = sym (mul-zero (natAbs k))
+sizes-scale k (x ∷ s) = omega (arith, size-mul k x, sizes-scale k s, mul-add (natAbs k) (natAbs x) (sizes s))
+
+-- of all products of two lists
+pub sizes-grid : (s t : List ℤ) → sizes (grid _*ℤ_ s t) ≡ sizes s * sizes t
+unfolding sizes grid flatMap
+sizes-grid [] t = omega arith
+sizes-grid (x ∷ s) t =
+    omega (arith, sizes-append (map (λ y. x *ℤ y) t) (grid _*ℤ_ s t), sizes-scale x t, sizes-grid s t, add-mul (natAbs x) (sizes s) (sizes t))
+
+-- one entry of a bound
+size-step : (x y r : ℤ) (n m : ℕ) → natAbs y ≤ m → natAbs r ≤ n * m → natAbs (x *ℤ y +ℤ r) ≤ (natAbs x + n) * m
+size-step x y r n m h k = omega (arith, size-add (x *ℤ y) r, size-mul x y, mul-le-mul-left (natAbs x) h, add-mul (natAbs x) n m)
+
+-- |<s,c>| is at most (|s₀| + |s₁| + ..)·m where no |cᵢ| is above m
+pub inner-size : {m : ℕ} (s : List ℤ) {c : List ℤ} → Each (λ y. natAbs y ≤ m) c → natAbs (inner s c) ≤ sizes s * m
+unfolding inner sizes
+inner-size [] e = omega arith
+inner-size (x ∷ s) nil = omega arith
+inner-size {m} (x ∷ s) (cons {x = y} {xs = c} h e) = size-step x y (inner s c) (sizes s) m h (inner-size s e)
+
+-- ---- tables
+
+-- a sum of sums is the same in either order
+pub inner-swap {ℓ κ} : {A : Type ℓ} {B : Type κ} (f : A → B → ℤ) (s t : List ℤ) (ps : List A) (qs : List B)
+    → inner s (map (λ p. inner t (map (f p) qs)) ps) ≡ inner t (map (λ q. inner s (map (λ p. f p q) ps)) qs)
+unfolding inner
+inner-swap f [] t ps qs = sym (inner-map-zero t qs)
+inner-swap f (x ∷ s) t [] qs = sym (inner-map-zero t qs)
+inner-swap f (x ∷ s) t (p ∷ ps) qs =
+    ap₂ _+ℤ_ (sym (inner-map-scale x (f p) t qs)) (inner-swap f s t ps qs)
+    ∙ sym (inner-map-add (λ q. x *ℤ f p q) (λ q. inner s (map (λ p. f p q) ps)) t qs)
+
+-- <t,c> reads n entries of c, and 0 for those that it has not, where t has no more
+pub inner-tabulate : (n : ℕ) (t c : List ℤ) → length t ≤ n → inner t (tabulate n (λ j. getD c j (pos 0))) ≡ inner t c
+unfolding inner tabulate
+inner-tabulate n [] c h = refl
+inner-tabulate zero (x ∷ t) c h = absurd (not-suc-le-zero h)
+inner-tabulate (suc n) (x ∷ t) [] h = ap₂ _+ℤ_ (*ℤ-zero x) (inner-tabulate n t [] (le-of-suc-le-suc h) ∙ inner-nil t)
+inner-tabulate (suc n) (x ∷ t) (y ∷ c) h = ap (λ z. x *ℤ y +ℤ z) (inner-tabulate n t c (le-of-suc-le-suc h))
+
+-- the sum of a table by rows is its sum by columns: <s, the <t,row> of the rows> = <t, the <s,column> of the first n columns>
+pub rows-columns : (n : ℕ) (s t : List ℤ) (rows : List (List ℤ)) → length t ≤ n
+    → inner s (map (inner t) rows) ≡ inner t (tabulate n (λ j. inner s (column j rows)))
+unfolding column
+rows-columns n s t rows h = simp (map-tabulate, inner-tabulate) at (inner-swap (λ row j. getD row j (pos 0)) s t rows (tabulate n (λ j. j)))

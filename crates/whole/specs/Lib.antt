@@ -1,0 +1,10 @@
+pub mod Tests
+pub mod Laws
+pub mod Ring
+pub mod Split
+pub mod Size
+pub mod Floor
+pub mod Round
+pub mod Centred
+pub mod Lists
+pub mod Inner
