@@ -1,10 +1,10 @@
 """Searches for a circuit whose noise breaks its bound.
 
 Random small circuits are drawn so that most are accepted, with keys, masks,
-errors and input ciphertexts chosen to make the noise large. Everything goes
-through the public calls. Then for every wire: its true noise for its plaintext
-bit is at most its tracked bound, four times the bound is under q, and
-decryption gives the bit.
+errors and input ciphertexts chosen to make the noise large. Fresh inputs,
+switching keys, planning, evaluation and decryption go through the public calls.
+Then for every wire: its true noise for its plaintext bit is at most its tracked
+bound, four times the bound is under q, and decryption gives the bit.
 
 The same search is then run with two planted faults, and must find each out.
 """

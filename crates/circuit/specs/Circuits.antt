@@ -101,21 +101,21 @@ planAnswer p inputs gates Bs =
 unfoldable pub planBounds : Params → ℕ → List Gate → List ℕ → List ℕ
 planBounds p inputs gates Bs = doneOr (firstOf (planRows p inputs gates Bs)) (boundsOf p gates (take inputs Bs)) Bs
 
--- ---- evaluation: also the buffer of all wires (inputs filled), the switching key, and n² of scratch
+-- ---- evaluation: also the buffer of all wires (inputs filled), the switching key, and n² of scratch, of which only the length counts
 
-unfoldable pub evaluateRows : Params → ℕ → List Gate → List ℤ → List ℕ → List ℤ → List ℤ → List Row
+unfoldable pub evaluateRows : Params → ℕ → List Gate → List ℤ → List ℕ → List ℤ → ℕ → List Row
 evaluateRows p inputs gates wires Bs W scratch =
     row 1 (badParams p)
     ∷ row 2 (badCounts inputs (length gates))
     ∷ row 3 (differs (length wires) ((inputs + length gates) * p .n)
     || differs (length Bs) (inputs + length gates)
     || differs (length W) (p .n * (p .n * p .n))
-    || differs (length scratch) (p .n * p .n))
+    || differs scratch (p .n * p .n))
     ∷ row 6 (outside (p .q) (take (inputs * p .n) wires) || outside (p .q * p .q) W)
     ∷ row 8 (not (all (fits (p .q)) (take inputs Bs)))
     ∷ gateRows p inputs gates (take inputs Bs)
 
-unfoldable pub evaluateAnswer : Params → ℕ → List Gate → List ℤ → List ℕ → List ℤ → List ℤ → Refusal
+unfoldable pub evaluateAnswer : Params → ℕ → List Gate → List ℤ → List ℕ → List ℤ → ℕ → Refusal
 evaluateAnswer p inputs gates wires Bs W scratch =
     let k = firstOf (evaluateRows p inputs gates wires Bs W scratch) in
     refused k (placeOf p inputs gates (take inputs Bs) k)
@@ -126,15 +126,15 @@ wiresOf p W gates inputCs = run (gateWire p W) gates inputCs
 
 unfoldable pub evaluateWires : Params → ℕ → List Gate → List ℤ → List ℕ → List ℤ → List ℤ → List ℤ
 evaluateWires p inputs gates wires Bs W scratch =
-    doneOr (firstOf (evaluateRows p inputs gates wires Bs W scratch)) (flatten (wiresOf p W gates (cut (p .n) inputs wires))) wires
+    doneOr (firstOf (evaluateRows p inputs gates wires Bs W (length scratch))) (flatten (wiresOf p W gates (cut (p .n) inputs wires))) wires
 
 unfoldable pub evaluateBounds : Params → ℕ → List Gate → List ℤ → List ℕ → List ℤ → List ℤ → List ℕ
 evaluateBounds p inputs gates wires Bs W scratch =
-    doneOr (firstOf (evaluateRows p inputs gates wires Bs W scratch)) (boundsOf p gates (take inputs Bs)) Bs
+    doneOr (firstOf (evaluateRows p inputs gates wires Bs W (length scratch))) (boundsOf p gates (take inputs Bs)) Bs
 
 unfoldable pub evaluateScratch : Params → ℕ → List Gate → List ℤ → List ℕ → List ℤ → List ℤ → List ℤ
 evaluateScratch p inputs gates wires Bs W scratch =
-    doneOr (firstOf (evaluateRows p inputs gates wires Bs W scratch)) (replicate (p .n * p .n) (pos 0)) scratch
+    doneOr (firstOf (evaluateRows p inputs gates wires Bs W (length scratch))) (replicate (p .n * p .n) (pos 0)) scratch
 
 -- the plaintext bits of all wires, from those of the inputs
 unfoldable pub bitsOf : List Gate → List ℕ → List ℕ

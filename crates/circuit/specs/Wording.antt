@@ -11,7 +11,7 @@ use Rattle.refusal.specs.First.{rising}
 use Rattle.circuit.specs.declared.Gate.{Gate}
 use Rattle.circuit.specs.Circuits.{gateRows, planRows, evaluateRows}
 
-pub rows-rise : (p : Params) (inputs : ℕ) (gates : List Gate) (wires : List ℤ) (Bs : List ℕ) (W scratch : List ℤ)
+pub rows-rise : (p : Params) (inputs : ℕ) (gates : List Gate) (wires : List ℤ) (Bs : List ℕ) (W : List ℤ) (scratch : ℕ)
     → all (rising 0) (planRows p inputs gates Bs ∷ evaluateRows p inputs gates wires Bs W scratch ∷ []) ≡ true
 unfolding all rising gateRows planRows evaluateRows
 rows-rise p inputs gates wires Bs W scratch = refl

@@ -1,12 +1,12 @@
 -- Document 01, *Parameters*: the ranges of n, q, L, E and F, the six house sheets, and what the maker of a set answers.
-use mathlib.Core.Path.{_≡_, refl}
+use mathlib.Core.Path.{_≡_, refl, ap}
 use mathlib.Core.Bool.{Bool, true, false, not, _&&_}
-use mathlib.Core.List.{List, [], _∷_}
+use mathlib.Core.List.{List, [], _∷_, map}
 use Prim.Native.Nat.{ℕ, zero, suc, _+_, _*_, _/_, _%_, _≤_, _<_}
 use native.Mathlib.Omega.{arith}
 use lib.Dec.{leb, ltb, eqb}
-use lib.ListN.{length, getD}
-use borrow.Author.Tests.{ltb-true, leb-true, eqb-true, lt-ltb, le-leb, eq-eqb}
+use lib.ListN.{length, getD, List·getD-map}
+use borrow.Author.Tests.{ltb-true, leb-true, eqb-true, lt-ltb, le-ltb, le-leb, eq-eqb}
 use Rattle.whole.specs.Tests.{and-left, and-right, and-both}
 use Rattle.whole.specs.Lists.{all, all-getD}
 use Rattle.refusal.specs.declared.Refusal.{Refusal}
@@ -37,23 +37,29 @@ inRange p =
     && ltb (4 * p .e) (p .q)
     && leb (p .f) 65535
 
--- the six house sheets
-unfoldable pub sheets : List Params
-sheets =
-    params 2 16 2 1 1
-    ∷ params 4 65536 4 2 1
-    ∷ params 8 65536 8 2 1
-    ∷ params 16 262144 16 3 1
-    ∷ params 64 1048576 64 4 2
-    ∷ params 256 1048576 128 8 4
+-- n, q, L, E and F of the six house sheets
+unfoldable pub sheetTable : List (List ℕ)
+sheetTable =
+    (2 ∷ 16 ∷ 2 ∷ 1 ∷ 1 ∷ [])
+    ∷ (4 ∷ 65536 ∷ 4 ∷ 2 ∷ 1 ∷ [])
+    ∷ (8 ∷ 65536 ∷ 8 ∷ 2 ∷ 1 ∷ [])
+    ∷ (16 ∷ 262144 ∷ 16 ∷ 3 ∷ 1 ∷ [])
+    ∷ (64 ∷ 1048576 ∷ 64 ∷ 4 ∷ 2 ∷ [])
+    ∷ (256 ∷ 1048576 ∷ 128 ∷ 8 ∷ 4 ∷ [])
     ∷ []
+
+abbrev pub ofRow : List ℕ → Params
+ofRow r = params (getD r 0 0) (getD r 1 0) (getD r 2 0) (getD r 3 0) (getD r 4 0)
+
+unfoldable pub sheets : List Params
+sheets = map ofRow sheetTable
 
 unfoldable pub sheet : ℕ → Params
 sheet k = getD sheets k noParams
 
 -- they meet the ranges: one computed test, and a law that carries it to each sheet
 pub sheets-in-range : all inRange sheets ≡ true
-unfolding all inRange sheets
+unfolding all inRange sheets sheetTable
 sheets-in-range = refl
 
 pub sheet-in-range : (k : ℕ) → k < length sheets → inRange (sheet k) ≡ true
@@ -105,6 +111,27 @@ pub answered-params : (k : ℕ) (p : Params) → madeParams (answered k p) ≡ d
 unfolding madeParams answered doneOr
 answered-params zero p = refl
 answered-params (suc k) p = refl
+
+-- the maker's two answers, and the sheet's
+pub made-set : (p : Params) → inRange p ≡ true → made p ≡ Set p
+unfolding made makeNumber answered firstOf doneOr
+made-set p e = rw e
+
+pub made-refused : (p : Params) → inRange p ≡ false → made p ≡ Refused (refused 1 0)
+unfolding made makeNumber answered firstOf doneOr
+made-refused p e = rw e
+
+sheet-number : (k : ℕ) {t : Bool} → ltb k 6 ≡ t → sheetNumber k ≡ firstOf (row 1 (not t) ∷ [])
+unfolding sheetNumber sheets sheetTable
+sheet-number k e = rw e
+
+pub sheet-set : (k : ℕ) → k < 6 → madeSheet k ≡ Set (ofRow (getD sheetTable k []))
+unfolding madeSheet answered firstOf doneOr sheet sheets
+sheet-set k h = rw (sheet-number k (lt-ltb k 6 h)) (ap Set (List·getD-map ofRow sheetTable k []))
+
+pub sheet-refused : (k : ℕ) → 6 ≤ k → madeSheet k ≡ Refused (refused 1 0)
+unfolding madeSheet answered firstOf doneOr
+sheet-refused k h = rw (sheet-number k (le-ltb k 6 h))
 
 -- ---- the ranges as facts
 

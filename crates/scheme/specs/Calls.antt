@@ -1,6 +1,6 @@
 -- Document 01, *Refusal numbers*, for the calls on keys and ciphertexts: for each call its rows in the table's order, the
--- answer, and what each buffer that it writes holds at exit. A result and scratch count by their length alone, since they may
--- arrive with anything in them.
+-- answer, and what each buffer that it writes holds at exit. Of a buffer that a call only writes, a result or scratch, the rows
+-- and the answer take the length alone: it may arrive with anything in it.
 use mathlib.Core.Bool.{Bool, not, _&&_, _||_}
 use mathlib.Core.List.{List, [], _∷_}
 use Prim.Native.Nat.{ℕ, _+_, _*_, _-_}
@@ -68,24 +68,24 @@ keyCheckAnswer p s = refused (firstOf (keyCheckRows p s)) 0
 
 -- ---- switching key maker: the key, the masks, the errors, and the buffer for the switching key
 
-unfoldable pub makeKeyRows : Params → List ℤ → List ℤ → List ℤ → List ℤ → List Row
-makeKeyRows p s masks f out =
+unfoldable pub makeKeyRows : Params → List ℤ → List ℤ → List ℤ → ℕ → List Row
+makeKeyRows p s masks f result =
     row 1 (badParams p)
     ∷ row 3 (differs (length s) (p .n)
     || differs (length masks) ((p .n - 1) * (p .n * p .n))
     || differs (length f) (p .n * p .n)
-    || differs (length out) (p .n * (p .n * p .n)))
+    || differs result (p .n * (p .n * p .n)))
     ∷ row 4 (badKey (p .l) s)
     ∷ row 6 (outside (p .q * p .q) masks)
     ∷ row 7 (exceeds (p .f) f)
     ∷ []
 
-unfoldable pub makeKeyAnswer : Params → List ℤ → List ℤ → List ℤ → List ℤ → Refusal
-makeKeyAnswer p s masks f out = refused (firstOf (makeKeyRows p s masks f out)) 0
+unfoldable pub makeKeyAnswer : Params → List ℤ → List ℤ → List ℤ → ℕ → Refusal
+makeKeyAnswer p s masks f result = refused (firstOf (makeKeyRows p s masks f result)) 0
 
 unfoldable pub makeKeyResult : Params → List ℤ → List ℤ → List ℤ → List ℤ → List ℤ
 makeKeyResult p s masks f out =
-    doneOr (firstOf (makeKeyRows p s masks f out)) (switchingKey (p .n) (p .q) s masks f) out
+    doneOr (firstOf (makeKeyRows p s masks f (length out))) (switchingKey (p .n) (p .q) s masks f) out
 
 -- ---- bench key maker, and its check call: the switching key of sheet 1, as four rows of sixteen
 
@@ -111,10 +111,10 @@ benchKey s masks f =
 
 -- ---- encrypt: the key, the bit, the mask, the error, and the buffer for the ciphertext
 
-unfoldable pub encryptRows : Params → List ℤ → ℕ → List ℤ → ℤ → List ℤ → List Row
-encryptRows p s b a e out =
+unfoldable pub encryptRows : Params → List ℤ → ℕ → List ℤ → ℤ → ℕ → List Row
+encryptRows p s b a e result =
     row 1 (badParams p)
-    ∷ row 3 (differs (length s) (p .n) || differs (length a) (p .n - 1) || differs (length out) (p .n))
+    ∷ row 3 (differs (length s) (p .n) || differs (length a) (p .n - 1) || differs result (p .n))
     ∷ row 4 (badKey (p .l) s)
     ∷ row 5 (badBit b)
     ∷ row 6 (outside (p .q) a)
@@ -122,11 +122,11 @@ encryptRows p s b a e out =
     ∷ []
 
 -- the stated bound is E, never |e|
-unfoldable pub encryptAnswer : Params → List ℤ → ℕ → List ℤ → ℤ → List ℤ → Bounded
-encryptAnswer p s b a e out = bounded (firstOf (encryptRows p s b a e out)) (p .e)
+unfoldable pub encryptAnswer : Params → List ℤ → ℕ → List ℤ → ℤ → ℕ → Bounded
+encryptAnswer p s b a e result = bounded (firstOf (encryptRows p s b a e result)) (p .e)
 
 unfoldable pub encryptResult : Params → List ℤ → ℕ → List ℤ → ℤ → List ℤ → List ℤ
-encryptResult p s b a e out = doneOr (firstOf (encryptRows p s b a e out)) (encrypt (p .q) s b a e) out
+encryptResult p s b a e out = doneOr (firstOf (encryptRows p s b a e (length out))) (encrypt (p .q) s b a e) out
 
 -- ---- decrypt: the key and the ciphertext
 
@@ -143,60 +143,60 @@ decryptAnswer p s c = decrypted (firstOf (decryptRows p s c)) (decrypt (p .q) s 
 
 -- ---- XOR: two ciphertexts with their bounds, and the buffer for the result
 
-unfoldable pub xorRows : Params → List ℤ → ℕ → List ℤ → ℕ → List ℤ → List Row
-xorRows p c B1 d B2 out =
+unfoldable pub xorRows : Params → List ℤ → ℕ → List ℤ → ℕ → ℕ → List Row
+xorRows p c B1 d B2 result =
     row 1 (badParams p)
-    ∷ row 3 (differs (length c) (p .n) || differs (length d) (p .n) || differs (length out) (p .n))
+    ∷ row 3 (differs (length c) (p .n) || differs (length d) (p .n) || differs result (p .n))
     ∷ row 6 (outside (p .q) c || outside (p .q) d)
     ∷ row 8 (overBudget (p .q) B1 || overBudget (p .q) B2)
     ∷ row 10 (overBudget (p .q) (XOR-bound B1 B2))
     ∷ []
 
-unfoldable pub xorAnswer : Params → List ℤ → ℕ → List ℤ → ℕ → List ℤ → Bounded
-xorAnswer p c B1 d B2 out = bounded (firstOf (xorRows p c B1 d B2 out)) (XOR-bound B1 B2)
+unfoldable pub xorAnswer : Params → List ℤ → ℕ → List ℤ → ℕ → ℕ → Bounded
+xorAnswer p c B1 d B2 result = bounded (firstOf (xorRows p c B1 d B2 result)) (XOR-bound B1 B2)
 
 unfoldable pub xorResult : Params → List ℤ → ℕ → List ℤ → ℕ → List ℤ → List ℤ
-xorResult p c B1 d B2 out = doneOr (firstOf (xorRows p c B1 d B2 out)) (XOR (p .q) c d) out
+xorResult p c B1 d B2 out = doneOr (firstOf (xorRows p c B1 d B2 (length out))) (XOR (p .q) c d) out
 
 -- ---- NOT: a ciphertext with its bound, and the buffer for the result
 
-unfoldable pub notRows : Params → List ℤ → ℕ → List ℤ → List Row
-notRows p c B out =
+unfoldable pub notRows : Params → List ℤ → ℕ → ℕ → List Row
+notRows p c B result =
     row 1 (badParams p)
-    ∷ row 3 (differs (length c) (p .n) || differs (length out) (p .n))
+    ∷ row 3 (differs (length c) (p .n) || differs result (p .n))
     ∷ row 6 (outside (p .q) c)
     ∷ row 8 (overBudget (p .q) B)
     ∷ []
 
-unfoldable pub notAnswer : Params → List ℤ → ℕ → List ℤ → Bounded
-notAnswer p c B out = bounded (firstOf (notRows p c B out)) (NOT-bound B)
+unfoldable pub notAnswer : Params → List ℤ → ℕ → ℕ → Bounded
+notAnswer p c B result = bounded (firstOf (notRows p c B result)) (NOT-bound B)
 
 unfoldable pub notResult : Params → List ℤ → ℕ → List ℤ → List ℤ
-notResult p c B out = doneOr (firstOf (notRows p c B out)) (NOT (p .q) c) out
+notResult p c B out = doneOr (firstOf (notRows p c B (length out))) (NOT (p .q) c) out
 
 -- ---- AND: two ciphertexts with their bounds, the switching key, scratch, and the buffer for the result
 
-unfoldable pub andRows : Params → List ℤ → ℕ → List ℤ → ℕ → List ℤ → List ℤ → List ℤ → List Row
-andRows p c B1 d B2 W scratch out =
+unfoldable pub andRows : Params → List ℤ → ℕ → List ℤ → ℕ → List ℤ → ℕ → ℕ → List Row
+andRows p c B1 d B2 W scratch result =
     row 1 (badParams p)
     ∷ row 3 (differs (length c) (p .n)
     || differs (length d) (p .n)
     || differs (length W) (p .n * (p .n * p .n))
-    || differs (length scratch) (p .n * p .n)
-    || differs (length out) (p .n))
+    || differs scratch (p .n * p .n)
+    || differs result (p .n))
     ∷ row 6 (outside (p .q) c || outside (p .q) d || outside (p .q * p .q) W)
     ∷ row 8 (overBudget (p .q) B1 || overBudget (p .q) B2)
     ∷ row 10 (overBudget (p .q) (AND-bound (p .n) (p .q) (p .l) (p .f) B1 B2))
     ∷ []
 
-unfoldable pub andAnswer : Params → List ℤ → ℕ → List ℤ → ℕ → List ℤ → List ℤ → List ℤ → Bounded
-andAnswer p c B1 d B2 W scratch out =
-    bounded (firstOf (andRows p c B1 d B2 W scratch out)) (AND-bound (p .n) (p .q) (p .l) (p .f) B1 B2)
+unfoldable pub andAnswer : Params → List ℤ → ℕ → List ℤ → ℕ → List ℤ → ℕ → ℕ → Bounded
+andAnswer p c B1 d B2 W scratch result =
+    bounded (firstOf (andRows p c B1 d B2 W scratch result)) (AND-bound (p .n) (p .q) (p .l) (p .f) B1 B2)
 
 unfoldable pub andResult : Params → List ℤ → ℕ → List ℤ → ℕ → List ℤ → List ℤ → List ℤ → List ℤ
-andResult p c B1 d B2 W scratch out = doneOr (firstOf (andRows p c B1 d B2 W scratch out)) (AND (p .n) (p .q) W c d) out
+andResult p c B1 d B2 W scratch out = doneOr (firstOf (andRows p c B1 d B2 W (length scratch) (length out))) (AND (p .n) (p .q) W c d) out
 
 -- scratch is all zero after success
 unfoldable pub andScratch : Params → List ℤ → ℕ → List ℤ → ℕ → List ℤ → List ℤ → List ℤ → List ℤ
 andScratch p c B1 d B2 W scratch out =
-    doneOr (firstOf (andRows p c B1 d B2 W scratch out)) (replicate (p .n * p .n) (pos 0)) scratch
+    doneOr (firstOf (andRows p c B1 d B2 W (length scratch) (length out))) (replicate (p .n * p .n) (pos 0)) scratch

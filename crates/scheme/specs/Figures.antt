@@ -10,7 +10,7 @@ use Rattle.whole.specs.Centred.{centred, rest}
 use Rattle.whole.specs.Lists.{all, tabulate, grid, cut}
 use Rattle.whole.specs.Inner.{inner, sizes, column}
 use Rattle.refusal.specs.First.{firstOf}
-use Rattle.refusal.specs.Parameters.{sheet, sheets, inRange}
+use Rattle.refusal.specs.Parameters.{sheet, sheets, sheetTable, inRange}
 use Rattle.scheme.specs.Arithmetic.{isResidue, encrypt, decrypt, noise, XOR, NOT, tensorEntry, tensor, keyRows, maskColumn, rowZeroEntry, switchingKey, switchEntry, switch, AND-bound, fits}
 use Rattle.scheme.specs.Calls.{badParams, differs, outside, overBudget, andRows}
 
@@ -47,7 +47,7 @@ switchingKey₀ = switchingKey 2 q s (four (pos 100) (− 100) (pos 7) (pos 0)) 
 -- the number that AND answers on sheet 1 for two zero ciphertexts with the bounds B1 and B2, and a zero switching key
 abbrev andNumber : ℕ → ℕ → ℕ
 andNumber B1 B2 =
-    firstOf (andRows (sheet 1) (replicate 4 (pos 0)) B1 (replicate 4 (pos 0)) B2 (replicate 64 (pos 0)) (replicate 16 (pos 0)) (replicate 4 (pos 0)))
+    firstOf (andRows (sheet 1) (replicate 4 (pos 0)) B1 (replicate 4 (pos 0)) B2 (replicate 64 (pos 0)) 16 4)
 
 pub figures : List Figure
 figures =
@@ -90,5 +90,5 @@ figures =
     ∷ []
 
 pub figures-hold : map (λ f. f .computed) figures ≡ map (λ f. f .stated) figures
-unfolding figures encrypt decrypt noise XOR NOT tensor tensorEntry switchingKey rowZeroEntry maskColumn keyRows switch switchEntry AND-bound fits isResidue firstOf centred rest round zipWith flatMap grid tabulate cut column inner andRows badParams differs outside overBudget inRange sheet sheets all
+unfolding figures encrypt decrypt noise XOR NOT tensor tensorEntry switchingKey rowZeroEntry maskColumn keyRows switch switchEntry AND-bound fits isResidue firstOf centred rest round zipWith flatMap grid tabulate cut column inner andRows badParams differs outside overBudget inRange sheet sheets sheetTable all
 figures-hold = refl

@@ -5,13 +5,13 @@ use mathlib.Core.Bool.{Bool, true}
 use mathlib.Core.List.{List, [], _∷_}
 use Prim.Native.Nat.{ℕ, _+_, _*_, _/_, _%_, _-_, _≤_, _<_}
 use native.Mathlib.Omega.{arith}
-use lib.IntN.{ℤ, pos, negℤ, _+ℤ_, _-ℤ_, _*ℤ_}
+use lib.IntN.{ℤ, pos, negℤ, _+ℤ_, _-ℤ_, _*ℤ_, natAbs}
 use lib.Signed.{_≤ℤ_, _<ℤ_, leZ, ltZ}
 use lib.ListN.{length, getD, drop, List·getD-append}
 use lib.Seq.{drop-at}
 use lib.Arith.{digits-lt, digits-div, digits-mod}
 use Rattle.whole.specs.Tests.{and-left, and-right, and-both, leZ-true, ltZ-true, le-leZ, lt-ltZ}
-use Rattle.whole.specs.Split.{zarith, mul-is, up-neg, dn-neg}
+use Rattle.whole.specs.Split.{zarith, mul-is, up-neg, dn-neg, size-is, apart}
 use Rattle.whole.specs.Centred.{Centred, centred, centred-is, centred-id}
 use Rattle.whole.specs.Lists.{all, getD-grid, getD-map, cut, length-cut, getD-cut-entry, tabulate, length-tabulate, getD-tabulate}
 use Rattle.whole.specs.Inner.{inner, column}
@@ -33,6 +33,12 @@ residue-high q x r = ltZ-true x (half q) (and-right (leZ (negℤ (half q)) x) (l
 pub range-residue : (q : ℕ) (x : ℤ) → negℤ (half q) ≤ℤ x → x <ℤ half q → isResidue q x ≡ true
 unfolding isResidue
 range-residue q x low high = and-both (le-leZ (negℤ (half q)) x low) (lt-ltZ x (half q) high)
+
+pub residue-size : (q : ℕ) (x : ℤ) → isResidue q x ≡ true → natAbs x ≤ q / 2
+residue-size q x r =
+    let low : negℤ (half q) ≤ℤ x = residue-low q x r in
+    let high : x <ℤ half q = residue-high q x r in
+    omega (zarith, up-neg (half q), dn-neg (half q), size-is x, apart x)
 
 -- [x]q lies in −q/2 to q/2−1, for every even q
 pub centred-residue : (q : ℕ) (x : ℤ) → 0 < q → q ≡ 2 * (q / 2) → isResidue q (centred q x) ≡ true
@@ -94,17 +100,17 @@ key-masks n q s masks f = drop-at (tabulate (n * n) (rowZeroEntry n q s masks f)
 -- ---- the lowest number that applies
 
 -- the rows of every call rise, so that `first-lowest` holds of each
-pub rows-rise : (p : Params) (s masks f a c d W scratch out : List ℤ) (b B1 B2 : ℕ) (e : ℤ)
+pub rows-rise : (p : Params) (s masks f a c d W : List ℤ) (b B1 B2 scratch result : ℕ) (e : ℤ)
     → all (rising 0)
     (keyCheckRows p s
-    ∷ makeKeyRows p s masks f out
+    ∷ makeKeyRows p s masks f result
     ∷ benchRows s masks f
-    ∷ encryptRows p s b a e out
+    ∷ encryptRows p s b a e result
     ∷ decryptRows p s c
-    ∷ xorRows p c B1 d B2 out
-    ∷ notRows p c B1 out
-    ∷ andRows p c B1 d B2 W scratch out
+    ∷ xorRows p c B1 d B2 result
+    ∷ notRows p c B1 result
+    ∷ andRows p c B1 d B2 W scratch result
     ∷ [])
     ≡ true
 unfolding all rising keyCheckRows makeKeyRows benchRows encryptRows decryptRows xorRows notRows andRows
-rows-rise p s masks f a c d W scratch out b B1 B2 e = refl
+rows-rise p s masks f a c d W b B1 B2 scratch result e = refl

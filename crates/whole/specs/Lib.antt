@@ -4,7 +4,9 @@ pub mod Ring
 pub mod Split
 pub mod Size
 pub mod Floor
+pub mod Rem
 pub mod Round
 pub mod Centred
 pub mod Lists
 pub mod Inner
+pub mod Machine

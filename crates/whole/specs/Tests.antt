@@ -3,10 +3,10 @@
 use mathlib.Core.Path.{_≡_, refl, sym, ap, _∙_, subst}
 use mathlib.Core.Bool.{Bool, true, false, not, _&&_, _||_, true≢false}
 use Prim.Native.Nat.{ℕ}
-use lib.Dec.{T, eqb}
+use lib.Dec.{T, eqb, lt→ltb}
 use lib.IntN.{ℤ, pos, negsuc}
 use lib.Signed.{ltZ, leZ, _≤ℤ_, _<ℤ_, ltZ-yes, ltZ-no, leZ-yes, clashℤ}
-use borrow.Author.Tests.{eqb-true, eq-eqb}
+use borrow.Author.Tests.{eqb-true, eq-eqb, leb-false}
 
 -- no test is both
 pub clash {ℓ} : {X : Type ℓ} {t : Bool} → t ≡ true → t ≡ false → X
@@ -69,6 +69,12 @@ ltZ-false x y e = ltZ-no (subst (λ (t : Bool). T (not t)) (sym e) tt)
 
 pub leZ-true : (x y : ℤ) → leZ x y ≡ true → x ≤ℤ y
 leZ-true x y e = leZ-yes (subst T (sym e) tt)
+
+pub leZ-false : (x y : ℤ) → leZ x y ≡ false → y <ℤ x
+leZ-false (pos a) (pos b) e = record { lt = lt→ltb b a (leb-false a b e) }
+leZ-false (pos a) (negsuc b) e = record { lt = tt }
+leZ-false (negsuc a) (pos b) e = clash refl e
+leZ-false (negsuc a) (negsuc b) e = record { lt = lt→ltb a b (leb-false b a e) }
 
 pub lt-ltZ : (x y : ℤ) → x <ℤ y → ltZ x y ≡ true
 lt-ltZ x y h = of-true (ltZ x y) (h .lt)
