@@ -88,6 +88,35 @@ first-lowest (r ∷ rows) k up = by-test (r .applies) refl (first-lowest rows (r
           lowest = λ j a. ⊎-elim (λ here. clash (here .0) e) (λ there. l .lowest j there) a;
         }
 
+-- ---- what a number tells
+
+-- no row applies
+abbrev pub Clear : List Row → Type 0
+Clear [] = Unit {0}
+Clear (r ∷ rows) = (r .applies ≡ false) × Clear rows
+
+-- number 0 means that every test is false
+pub first-clear : (rows : List Row) (k : ℕ) → rising k rows ≡ true → firstOf rows ≡ 0 → Clear rows
+unfolding firstOf rising
+first-clear [] k up e = tt
+first-clear (r ∷ rows) k up e = by-test (r .applies) refl e (first-clear rows (r .number) (and-right (ltb k (r .number)) (rising (r .number) rows) up))
+  where
+    number-up : ltb k (r .number) ≡ true
+    number-up = and-left (ltb k (r .number)) (rising (r .number) rows) up
+
+    by-test : (t : Bool) → r .applies ≡ t → cond t (r .number) (firstOf rows) ≡ 0 → (firstOf rows ≡ 0 → Clear rows) → Clear (r ∷ rows)
+    by-test true f z later = absurd (omega (arith, ltb-true k (r .number) number-up))
+    by-test false f z later = (f, later z)
+
+pub doneOr-done : {A : Type 0} {k : ℕ} (a z : A) → k ≡ 0 → doneOr k a z ≡ a
+unfolding doneOr
+doneOr-done a z e = rw e
+
+pub doneOr-refused : {A : Type 0} {k : ℕ} (a z : A) → k ≢ 0 → doneOr k a z ≡ z
+unfolding doneOr
+doneOr-refused {k = zero} a z h = absurd (h refl)
+doneOr-refused {k = suc k} a z h = refl
+
 -- ---- the place is the first: there the test is true, and before it none is
 
 pub first-is-true : (ts : List Bool) → someTrue ts ≡ true → getD ts (firstTrue ts) false ≡ true

@@ -41,7 +41,7 @@ q = 16
 abbrev s : List ℤ
 s = pair (pos 1) (pos 1)
 
-abbrev switchingKey₀ : List ℤ
+abbrev pub switchingKey₀ : List ℤ
 switchingKey₀ = switchingKey 2 q s (four (pos 100) (− 100) (pos 7) (pos 0)) (four (pos 1) (pos 0) (pos 0) (− 1))
 
 -- the number that AND answers on sheet 1 for two zero ciphertexts with the bounds B1 and B2, and a zero switching key

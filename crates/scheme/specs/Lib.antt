@@ -1,5 +1,9 @@
 pub mod Arithmetic
 pub mod Calls
+pub mod Passed
 pub mod Figures
 pub mod Ties
 pub mod Wording
+pub mod Slips
+pub mod Unique
+pub mod Witnesses

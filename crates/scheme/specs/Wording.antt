@@ -4,6 +4,7 @@ use mathlib.Core.Path.{_≡_, refl, sym, ap, _∙_}
 use mathlib.Core.Bool.{Bool, true}
 use mathlib.Core.List.{List, [], _∷_}
 use Prim.Native.Nat.{ℕ, _+_, _*_, _/_, _%_, _-_, _≤_, _<_}
+use native.Mathlib.Nat.{mul-assoc}
 use native.Mathlib.Omega.{arith}
 use lib.IntN.{ℤ, pos, negℤ, _+ℤ_, _-ℤ_, _*ℤ_, natAbs}
 use lib.Signed.{_≤ℤ_, _<ℤ_, leZ, ltZ}
@@ -57,6 +58,12 @@ residue-centred q x h even r =
     centred-id q x h
     (omega (zarith, mul-is (pos 2) x, up-neg (pos q), dn-neg (pos q), up-neg (half q), dn-neg (half q)))
     (omega (zarith, mul-is (pos 2) x))
+
+-- the square of an even number is even
+pub even-square : (q : ℕ) → q ≡ 2 * (q / 2) → q * q ≡ 2 * (q * q / 2)
+even-square q even =
+    let e : q * q ≡ 2 * (q / 2 * q) = ap (λ k. k * q) even ∙ mul-assoc 2 (q / 2) q in
+    omega arith
 
 -- ---- places
 

@@ -1,6 +1,7 @@
 -- The centred residue: [x]q is the number in −q/2 to q/2−1 that differs from x by a multiple of q.
-use mathlib.Core.Path.{_≡_, refl, sym, ap, _∙_}
+use mathlib.Core.Path.{_≡_, refl, sym, ap, ap₂, _∙_}
 use mathlib.Core.Bool.{Bool, true, false, cond}
+use mathlib.Core.List.{[], _∷_}
 use Prim.Native.Nat.{ℕ, zero, suc, _+_, _*_, _≤_, _<_}
 use native.Mathlib.Omega.{arith}
 use native.Mathlib.Nat.{le-of-eq}
@@ -10,6 +11,7 @@ use lib.IntN.{ℤ, pos, negsuc, negℤ, _+ℤ_, _-ℤ_, _*ℤ_, +ℤ-idr, +ℤ-a
 use lib.Signed.{_≤ℤ_, _<ℤ_, shrZ, ltZ}
 use Rattle.whole.specs.Tests.{ltZ-true, ltZ-false}
 use Rattle.whole.specs.Laws.{*ℤ-distr}
+use Rattle.whole.specs.Ring.{by-ring, quote}
 use Rattle.whole.specs.Split.{up, dn, zarith, add-is, sub-is, mul-is, up-neg, dn-neg, size-is, apart}
 use Rattle.whole.specs.Floor.{Floor, floor-is, floor-unique, next-multiple}
 
@@ -88,6 +90,32 @@ centred-unique {q} {x} {r} {r′} c d =
 pub centred-eq : {q : ℕ} {x r : ℤ} → 0 < q → Centred q x r → centred q x ≡ r
 centred-eq {q} {x} h c = centred-unique (centred-is q x h) c
 
+-- ---- numbers that differ by a multiple of q
+
+-- x is y and a multiple of q
+pub record Congruent (q : ℕ) (x y : ℤ) : Type 0 where
+  pub turns : ℤ
+  pub off : x ≡ y +ℤ turns *ℤ pos q
+
+-- a number and itself
+pub congruent-same : (q : ℕ) (x : ℤ) → Congruent q x x
+congruent-same q x = record { turns = pos 0; off = sym (ap (λ (m : ℤ). x +ℤ m) (zero-*ℤ (pos q)) ∙ +ℤ-idr x) }
+
+-- x and [x]q
+pub centred-congruent : (q : ℕ) (x : ℤ) → 0 < q → Congruent q x (centred q x)
+centred-congruent q x h = let c : Centred q x (centred q x) = centred-is q x h in record { turns = c .turns; off = c .off }
+
+-- two sums of a multiple and a number, where the parts are so
+pub congruent-step : {q : ℕ} {y y′ r r′ : ℤ} (x : ℤ) → Congruent q y y′ → Congruent q r r′ → Congruent q (x *ℤ y +ℤ r) (x *ℤ y′ +ℤ r′)
+congruent-step {q} {y} {y′} {r} {r′} x a b =
+    record {
+      turns = x *ℤ a .turns +ℤ b .turns;
+      off = ap₂ (λ m n. x *ℤ m +ℤ n) (a .off) (b .off) ∙ step x y′ r′ (a .turns) (b .turns) (pos q);
+    }
+  where
+    step : (x y r t u q : ℤ) → x *ℤ (y +ℤ t *ℤ q) +ℤ (r +ℤ u *ℤ q) ≡ x *ℤ y +ℤ r +ℤ (x *ℤ t +ℤ u) *ℤ q
+    step x y r t u q = by-ring (x ∷ y ∷ r ∷ t ∷ u ∷ q ∷ []) (search quote depth 100 fits 100000) tt
+
 -- ---- laws
 
 turn-twice : (q : ℕ) (r t k : ℤ) → r +ℤ t *ℤ pos q +ℤ k *ℤ pos q ≡ r +ℤ (t +ℤ k) *ℤ pos q
@@ -106,13 +134,36 @@ centred-turn q x k h =
       off = ap (λ (y : ℤ). y +ℤ k *ℤ pos q) (c .off) ∙ turn-twice q (centred q x) t k;
     })
 
+-- [x + [y]] = [x + y]: a summand may be reduced first
+pub centred-add : (q : ℕ) (x y : ℤ) → 0 < q → centred q (x +ℤ centred q y) ≡ centred q (x +ℤ y)
+centred-add q x y h =
+    let c : Centred q y (centred q y) = centred-is q y h in
+    let t : ℤ = c .turns in
+    sym
+    (ap (λ (z : ℤ). centred q (x +ℤ z)) (c .off)
+    ∙ ap (centred q) (sym (+ℤ-assoc x (centred q y) (t *ℤ pos q)))
+    ∙ centred-turn q (x +ℤ centred q y) t h)
+
 -- [x] = x where 2|x| < q, and wherever x is in the range
 pub centred-id : (q : ℕ) (x : ℤ) → 0 < q → negℤ (pos q) ≤ℤ (pos 2 *ℤ x) → (pos 2 *ℤ x) <ℤ pos q → centred q x ≡ x
-centred-id q x h lo hi = centred-eq h (record { low = lo; high = hi; turns = pos 0; off = sym (ap (λ (m : ℤ). x +ℤ m) (zero-*ℤ (pos q)) ∙ +ℤ-idr x) })
+centred-id q x h lo hi = let s : Congruent q x x = congruent-same q x in centred-eq h (record { low = lo; high = hi; turns = s .turns; off = s .off })
 
 pub centred-small : (q : ℕ) (x : ℤ) → 2 * natAbs x < q → centred q x ≡ x
 centred-small q x h =
     centred-id q x (omega arith) (omega (zarith, size-is x, mul-is (pos 2) x, up-neg (pos q), dn-neg (pos q))) (omega (zarith, size-is x, mul-is (pos 2) x))
+
+-- [q/2] = −q/2
+pub centred-middle : (q h : ℕ) → 0 < q → q ≡ 2 * h → centred q (pos h) ≡ negℤ (pos h)
+centred-middle q h p even =
+    let r : ℤ = negℤ (pos h) in
+    let q′ : ℤ = pos 1 *ℤ pos q in
+    centred-eq p
+    (record {
+      low = omega (zarith, mul-is (pos 2) r, up-neg (pos h), dn-neg (pos h), up-neg (pos q), dn-neg (pos q));
+      high = omega (zarith, mul-is (pos 2) r, up-neg (pos h), dn-neg (pos h));
+      turns = pos 1;
+      off = omega (zarith, add-is r q′, up-neg (pos h), dn-neg (pos h));
+    })
 
 -- 2|[x]| is at most q
 pub centred-half : (q : ℕ) (x : ℤ) → 0 < q → 2 * natAbs (centred q x) ≤ q

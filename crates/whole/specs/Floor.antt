@@ -2,7 +2,7 @@
 use mathlib.Core.Path.{_≡_, refl, sym, ap, _∙_}
 use Prim.Native.Nat.{ℕ, zero, suc, _+_, _*_, _/_, _%_, _≤_, _<_}
 use native.Mathlib.Omega.{arith}
-use native.Mathlib.Nat.{div-add-mod', mod-lt, add-mul, lt-of-mul-lt-mul-right, mul-le-mul-right, suc-mul}
+use native.Mathlib.Nat.{div-zero, div-mul-le-self, le-div-iff-mul-le, zero-lt-suc, div-add-mod', mod-lt, add-mul, lt-of-mul-lt-mul-right, mul-le-mul-right, suc-mul}
 use lib.IntN.{ℤ, pos, negsuc, negℤ, _+ℤ_, _-ℤ_, _*ℤ_, +ℤ-one, sucℤ-*ℤ}
 use lib.Signed.{_≤ℤ_, _<ℤ_, shrZ}
 use Rattle.whole.specs.Split.{up, dn, zarith, add-is, sub-is, mul-is, le-in, lt-in, le-out, lt-out}
@@ -18,6 +18,11 @@ pub times-le : (b : ℕ) (k j : ℤ) → k ≤ℤ j → (k *ℤ pos b) ≤ℤ (j
 times-le b k j h =
     let g : (up k + dn j) * b ≤ (up j + dn k) * b = mul-le-mul-right b (le-in k j h) in
     omega (zarith, mul-is k (pos b), mul-is j (pos b), add-mul (up k) (dn j) b, add-mul (up j) (dn k) b)
+
+-- more divided by the same is no less
+pub div-mono : (b : ℕ) {m n : ℕ} → m ≤ n → m / b ≤ n / b
+div-mono zero {m} {n} h = omega (arith, div-zero m)
+div-mono (suc b) {m} {n} h = le-div-iff-mul-le (zero-lt-suc b) .1 (omega (arith, div-mul-le-self m (suc b)))
 
 -- k is x/b rounded down
 pub record Floor (x : ℤ) (b : ℕ) (k : ℤ) : Type 0 where

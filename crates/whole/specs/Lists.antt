@@ -1,14 +1,22 @@
 -- Lists of anything: a list given by its entries (`tabulate`), a statement of every entry (`Each`), a test of every entry (`all`),
+-- the same by a count of those that fail (`Counted`), a list filled entry after entry (`Filled`),
 -- two lists entry by entry (`zipWith`, the library's), all pairs of two lists (`grid`), and a list in rows (`cut`, `flatten`).
 -- An entry is read by `getD xs i d`; where i is below the length the default d does not matter, so the laws hold for any.
 use mathlib.Core.Path.{_≡_, refl, sym, ap, ap₂, _∙_}
-use mathlib.Core.Bool.{Bool, true, _&&_, and-true, and-assoc, and-eq-true-iff}
-use mathlib.Core.List.{List, [], _∷_, _++_, map, map-map, map-append, flatMap, flatten, zipWith, zip}
-use Prim.Native.Nat.{ℕ, zero, suc, _+_, _*_, _≤_, _<_, suc-le-suc}
-use native.Mathlib.Nat.{zero-add, add-comm, zero-mul, suc-mul, suc-inj, le-of-suc-le-suc, not-suc-le-zero, zero-lt-suc}
+use mathlib.Core.Bool.{Bool, true, false, cond, _&&_, and-true, and-false, and-assoc, and-eq-true-iff}
+use mathlib.Core.List.{List, [], _∷_, _++_, append-nil, map, map-map, map-append, flatMap, flatten, zipWith, zip, append-assoc}
+use Prim.Native.Nat.{ℕ, zero, suc, _+_, _*_, _≤_, _<_, suc-le-suc, _-_, _/_, _%_}
+use native.Mathlib.Nat.{zero-add, add-zero, add-comm, zero-mul, suc-mul, suc-inj, le-of-suc-le-suc, not-suc-le-zero, zero-lt-suc, mul-le-mul-right, div-add-mod', div-lt-iff-lt-mul, mod-lt}
+use native.Mathlib.Numerals.{add-one}
 use native.Mathlib.Omega.{arith}
-use lib.ListN.{length, getD, take, drop, length-append, length-map, length-drop, List·getD-append}
-use lib.Seq.{getD-take, getD-drop, length-take-le, take-suc, take-all, take-add, take-at, drop-at, drop-drop, getD-append-add}
+use lib.Dec.{eqb}
+use lib.ListN.{length, getD, take, drop, set, length-append, length-map, length-drop, length-set, drop-of-length-le, List·getD-append, length-take, take-append-drop}
+use lib.Seq.{getD-take, getD-drop, length-take-le, take-suc, take-all, take-add, take-at, drop-at, drop-drop, getD-append-add, paste-suc, length-front}
+use borrow.Author.Tests.{ne-eqb}
+
+-- two lists entry by entry (`zipWith`, the library's), all pairs of two lists (`grid`), a list in rows (`cut`, `flatten`), and a list
+-- that is being filled from its start (`Filled`).
+-- An entry is read by `getD xs i d`; where i is below the length the default d does not matter, so the laws hold for any.
 
 -- ---- a list given by its entries
 
@@ -50,6 +58,13 @@ module _ {ℓ} {A : Type ℓ} where
   tabulate-getD [] d = refl
   tabulate-getD (x ∷ xs) d = ap (λ (r : List A). x ∷ r) (tabulate-getD xs d)
 
+  -- and so are its first n entries
+  pub tabulate-take : (n : ℕ) (xs : List A) (d : A) → n ≤ length xs → tabulate n (λ i. getD xs i d) ≡ take n xs
+  unfolding tabulate
+  tabulate-take zero xs d h = refl
+  tabulate-take (suc n) [] d h = absurd (not-suc-le-zero h)
+  tabulate-take (suc n) (x ∷ xs) d h = ap (λ (r : List A). x ∷ r) (tabulate-take n xs d (le-of-suc-le-suc h))
+
 module _ {ℓ κ} {A : Type ℓ} {B : Type κ} where
   -- g of every entry
   pub map-tabulate : (g : A → B) (n : ℕ) (f : ℕ → A) → map g (tabulate n f) ≡ tabulate n (λ k. g (f k))
@@ -82,10 +97,36 @@ module _ {ℓ κ} {A : Type ℓ} where
   getD-each {xs = []} d h = nil
   getD-each {xs = x ∷ xs} d h = cons (h zero (zero-lt-suc (length xs))) (getD-each d (λ i l. h (suc i) (suc-le-suc l)))
 
+  -- what holds of everything holds of every entry
+  pub each-always : {P : A → Type κ} → ((x : A) → P x) → (xs : List A) → Each P xs
+  each-always h [] = nil
+  each-always h (x ∷ xs) = cons (h x) (each-always h xs)
+
+  -- every entry of a list given by its entries
+  pub each-tabulate : {P : A → Type κ} (n : ℕ) (f : ℕ → A) → ((i : ℕ) → i < n → P (f i)) → Each P (tabulate n f)
+  unfolding tabulate
+  each-tabulate zero f h = nil
+  each-tabulate (suc n) f h = cons (h zero (zero-lt-suc n)) (each-tabulate n (λ k. f (suc k)) (λ i l. h (suc i) (suc-le-suc l)))
+
   -- every entry of two lists, of the one after the other
   pub each-append : {P : A → Type κ} {xs ys : List A} → Each P xs → Each P ys → Each P (xs ++ ys)
   each-append nil e = e
   each-append (cons p d) e = cons p (each-append d e)
+
+  -- and of the first n entries, and of those after them
+  pub each-take : {P : A → Type κ} {xs : List A} (n : ℕ) → Each P xs → Each P (take n xs)
+  each-take zero e = nil
+  each-take (suc n) nil = nil
+  each-take (suc n) (cons p e) = cons p (each-take n e)
+
+  pub each-drop : {P : A → Type κ} {xs : List A} (n : ℕ) → Each P xs → Each P (drop n xs)
+  each-drop zero e = e
+  each-drop (suc n) nil = nil
+  each-drop (suc n) (cons p e) = each-drop n e
+
+  -- and of those from i up to e
+  pub each-part : {P : A → Type κ} {xs : List A} (i e : ℕ) → Each P xs → Each P (take (e - i) (drop i xs))
+  each-part i e d = each-take (e - i) (each-drop i d)
 
 module _ {ℓ κ μ} {A : Type ℓ} {B : Type κ} where
   -- every entry of a map
@@ -120,10 +161,130 @@ module _ {ℓ} {A : Type ℓ} where
   getD-all p [] d h = refl
   getD-all p (x ∷ xs) d h = and-eq-true-iff (p x) (all p xs) .1 (h zero (zero-lt-suc (length xs)), getD-all p xs d (λ i l. h (suc i) (suc-le-suc l)))
 
+  -- where a list passes, any part of it does
+  pub all-part : (p : A → Bool) (i n : ℕ) (xs : List A) → all p xs ≡ true → all p (take n (drop i xs)) ≡ true
+  all-part p i n xs e = split n (drop i xs) (split i xs e .1) .0
+    where
+      split : (i : ℕ) (xs : List A) → all p xs ≡ true → (all p (take i xs) ≡ true) × (all p (drop i xs) ≡ true)
+      split i xs e = and-eq-true-iff (all p (take i xs)) (all p (drop i xs)) .0 (sym (all-append p (take i xs) (drop i xs)) ∙ ap (all p) (take-append-drop i xs) ∙ e)
+
+  -- what each entry that passes satisfies, every entry of a list that passes satisfies
+  pub all-each {κ} : {P : A → Type κ} (p : A → Bool) (xs : List A) → ((x : A) → p x ≡ true → P x) → all p xs ≡ true → Each P xs
+  unfolding all
+  all-each p [] f e = nil
+  all-each p (x ∷ xs) f e = cons (f x (and-eq-true-iff (p x) (all p xs) .0 e .0)) (all-each p xs f (and-eq-true-iff (p x) (all p xs) .0 e .1))
+
+  -- a list whose every entry passes does
+  pub each-all : {p : A → Bool} {xs : List A} → Each (λ x. p x ≡ true) xs → all p xs ≡ true
+  unfolding all
+  each-all nil = refl
+  each-all {p} (cons {x = x} {xs = xs} h e) = and-eq-true-iff (p x) (all p xs) .1 (h, each-all e)
+
+  -- where a list passes, what is left of it does
+  pub all-drop : (p : A → Bool) (n : ℕ) (xs : List A) → all p xs ≡ true → all p (drop n xs) ≡ true
+  unfolding all
+  all-drop p zero xs e = e
+  all-drop p (suc n) [] e = e
+  all-drop p (suc n) (x ∷ xs) e = all-drop p n xs (and-eq-true-iff (p x) (all p xs) .0 e .1)
+
   -- one more entry tested
   pub all-suc : (p : A → Bool) (xs : List A) (i : ℕ) (d : A) → i < length xs → all p (take (suc i) xs) ≡ (all p (take i xs) && p (getD xs i d))
   unfolding all
   all-suc p xs i d h = rw (take-suc xs i d, all-append, and-true)
+
+module _ {ℓ κ} {A : Type ℓ} {B : Type κ} where
+  -- a map passes where every value of f does
+  pub all-map : (p : B → Bool) (f : A → B) (xs : List A) → ((x : A) → p (f x) ≡ true) → all p (map f xs) ≡ true
+  unfolding all
+  all-map p f [] h = refl
+  all-map p f (x ∷ xs) h = and-eq-true-iff (p (f x)) (all p (map f xs)) .1 (h x, all-map p f xs h)
+
+-- ---- a test of every entry by counting those that fail
+
+-- what one entry adds, and to what it adds 0
+count-one : (t : Bool) → cond t 0 1 ≤ 1
+count-one true = omega arith
+count-one false = omega arith
+
+count-zero : (n : ℕ) (r t : Bool) → eqb n 0 ≡ r → eqb (n + cond t 0 1) 0 ≡ (r && t)
+count-zero n r true e = rw (add-zero, and-true) e
+count-zero n r false e = rw and-false (ne-eqb (n + 1) 0 (λ z. omega arith))
+
+module _ {ℓ} {A : Type ℓ} where
+  -- the invariant of a loop that counts: n is 0 exactly where each of the first i entries passes, and at most i
+  pub record Counted (p : A → Bool) (xs : List A) (n i : ℕ) : Type ℓ where
+    pub within : i ≤ length xs
+    pub few : n ≤ i
+    pub so-far : eqb n 0 ≡ all p (take i xs)
+
+  -- at first there is none
+  pub count-start : (p : A → Bool) (xs : List A) → Counted p xs 0 0
+  unfolding all
+  count-start p xs = record { within = omega arith; few = omega arith; so-far = refl }
+
+  -- the next entry counts 0 where it passes and 1 where it fails
+  pub count-step : {p : A → Bool} {xs : List A} {n i : ℕ} → Counted p xs n i → {k : ℕ} (d : A) → i < length xs → k ≡ cond (p (getD xs i d)) 0 1
+      → Counted p xs (n + k) (i + 1)
+  count-step {p} {xs} {n} {i} f d h e =
+      record {
+        within = omega arith;
+        few = omega (arith, count-one (p (getD xs i d)));
+        so-far = rw (e, add-one, all-suc p xs i d) (count-zero n _ (p (getD xs i d)) (f .so-far));
+      }
+
+  -- at the end the count is 0 exactly where every entry passes
+  pub count-end : {p : A → Bool} {xs : List A} {n i : ℕ} → Counted p xs n i → length xs ≤ i → eqb n 0 ≡ all p xs
+  count-end {p} {xs} {n} {i} f h = f .so-far ∙ rw take-all
+
+-- ---- a list filled from its start, one entry after the other
+
+module _ {ℓ} {A : Type ℓ} where
+  -- the invariant of a loop that fills `found`, of which `out` is what it has come to: the first i entries are those of the target,
+  -- the rest is as found
+  pub record Filled (target found out : List A) (i : ℕ) : Type ℓ where
+    pub long : length target ≡ length found
+    pub within : i ≤ length found
+    pub kept : length out ≡ length found
+    pub so-far : out ≡ take i target ++ drop i found
+
+  -- at first all is as found
+  pub fill-start : (target found : List A) → length target ≡ length found → Filled target found found 0
+  fill-start target found l = record { long = l; within = omega arith; kept = refl; so-far = refl }
+
+  -- the next entry of the target stored
+  pub fill-step : {target found out : List A} {i : ℕ} → Filled target found out i → (x d : A) → i < length found → x ≡ getD target i d
+      → Filled target found (set out i x) (i + 1)
+  fill-step {target} {found} {out} {i} f x d h e =
+      record {
+        long = f .long;
+        within = omega arith;
+        kept = rw length-set (f .kept);
+        so-far = rw (f .so-far, e, add-one) (simp zero-add at (paste-suc found 0 target i d (omega arith) (omega arith)));
+      }
+
+  -- at the end all is the target's
+  pub fill-end : {target found out : List A} {i : ℕ} → Filled target found out i → length found ≤ i → out ≡ target
+  fill-end {target} {found} {out} {i} f h =
+      let whole : length target ≤ i = omega arith in
+      rw (f .so-far, take-all i target, drop-of-length-le found, append-nil)
+
+  -- the next n entries of the target put in as one part
+  part-put : (i n : ℕ) (target found : List A) → i ≤ length target
+      → take i (take i target ++ drop i found) ++ (take n (drop i target) ++ drop n (drop i (take i target ++ drop i found))) ≡ take (i + n) target ++ drop (i + n) found
+  part-put i n target found h =
+      let l : length (take i target) ≡ i = length-take-le i target h in
+      rw (take-at (take i target) (drop i found) i, drop-at (take i target) (drop i found) i, drop-drop, take-add) (sym (append-assoc (take i target) (take n (drop i target)) (drop (i + n) found)))
+
+  pub fill-part : {target found out new : List A} {i : ℕ} (n : ℕ) → Filled target found out i → i + n ≤ length found → new ≡ take n (drop i target)
+      → Filled target found (take i out ++ (new ++ drop n (drop i out))) (i + n)
+  fill-part {target} {found} {out} {new} {i} n f h e =
+      let r : take i out ++ (new ++ drop n (drop i out)) ≡ take (i + n) target ++ drop (i + n) found = rw (f .so-far, e) (part-put i n target found (omega arith)) in
+      record {
+        long = f .long;
+        within = h;
+        kept = ap length r ∙ length-front found (take (i + n) target) (i + n) (simp length-take (omega arith));
+        so-far = r;
+      }
 
 -- ---- two lists entry by entry
 
@@ -171,6 +332,14 @@ module _ {ℓ κ} {A : Type ℓ} {B : Type κ} where
 pub zipWith-second {ℓ κ} : {A : Type ℓ} {B : Type κ} (xs : List A) (ys : List B) → length xs ≡ length ys → zipWith (λ x y. y) xs ys ≡ ys
 zipWith-second xs ys e = zipWith-flip (λ x y. y) xs ys ∙ zipWith-first ys xs (sym e)
 
+module _ {ℓ κ μ ν} {A : Type ℓ} {B : Type κ} {C : Type μ} {D : Type ν} where
+  -- g of every entry
+  pub map-zipWith : (g : C → D) (f : A → B → C) (xs : List A) (ys : List B) → map g (zipWith f xs ys) ≡ zipWith (λ x y. g (f x y)) xs ys
+  unfolding zipWith
+  map-zipWith g f [] ys = refl
+  map-zipWith g f (x ∷ xs) [] = refl
+  map-zipWith g f (x ∷ xs) (y ∷ ys) = ap (λ (r : List D). g (f x y) ∷ r) (map-zipWith g f xs ys)
+
 -- ---- all pairs of two lists
 
 module _ {ℓ κ μ} {A : Type ℓ} {B : Type κ} {C : Type μ} where
@@ -201,6 +370,26 @@ module _ {ℓ κ μ} {A : Type ℓ} {B : Type κ} {C : Type μ} where
       let place : suc u * length ys + v ≡ length (map (f x) ys) + (u * length ys + v) = omega (arith, length-map ys (f x), suc-mul u (length ys)) in
       rw place (getD-append-add (map (f x) ys) (grid f xs ys) (u * length ys + v) c ∙ getD-grid f xs ys u v a b c (le-of-suc-le-suc h) k)
 
+  -- row u is f of entry u with every entry of ys
+  grid-rest : (f : A → B → C) (x : A) (xs : List A) (ys : List B) (u : ℕ) → drop (suc u * length ys) (grid f (x ∷ xs) ys) ≡ drop (u * length ys) (grid f xs ys)
+  unfolding grid flatMap
+  grid-rest f x xs ys u = rw (suc-mul, add-comm (u * length ys), ← drop-drop) (ap (drop (u * length ys)) (drop-at (map (f x) ys) (grid f xs ys) (length ys) (length-map ys (f x))))
+
+  pub grid-row : (f : A → B → C) (xs : List A) (ys : List B) (u : ℕ) (a : A) → u < length xs → take (length ys) (drop (u * length ys) (grid f xs ys)) ≡ map (f (getD xs u a)) ys
+  unfolding grid flatMap
+  grid-row f [] ys u a h = absurd (not-suc-le-zero h)
+  grid-row f (x ∷ xs) ys zero a h = rw zero-mul (take-at (map (f x) ys) (grid f xs ys) (length ys) (length-map ys (f x)))
+  grid-row f (x ∷ xs) ys (suc u) a h = ap (take (length ys)) (grid-rest f x xs ys u) ∙ grid-row f xs ys u a (le-of-suc-le-suc h)
+
+  -- the same by the place of an entry: entry k stands in row k/n at k%n, where ys has n entries
+  pub getD-grid-place : (f : A → B → C) (xs : List A) (ys : List B) (k : ℕ) (a : A) (b : B) (c : C) → k < length xs * length ys
+      → getD (grid f xs ys) k c ≡ f (getD xs (k / length ys) a) (getD ys (k % length ys) b)
+  getD-grid-place f xs [] k a b c h = absurd (omega arith)
+  getD-grid-place f xs (y ∷ ys) k a b c h =
+      let n : ℕ = length (y ∷ ys) in
+      ap (λ (m : ℕ). getD (grid f xs (y ∷ ys)) m c) (sym (div-add-mod' k n))
+      ∙ getD-grid f xs (y ∷ ys) (k / n) (k % n) a b c (div-lt-iff-lt-mul (zero-lt-suc (length ys)) .1 h) (mod-lt k (zero-lt-suc (length ys)))
+
 module _ {ℓ κ μ ν} {A : Type ℓ} {B : Type κ} {C : Type μ} {D : Type ν} where
   -- g of every entry
   pub map-grid : (g : C → D) (f : A → B → C) (xs : List A) (ys : List B) → map g (grid f xs ys) ≡ grid (λ x y. g (f x y)) xs ys
@@ -209,6 +398,10 @@ module _ {ℓ κ μ ν} {A : Type ℓ} {B : Type κ} {C : Type μ} {D : Type ν}
   map-grid g f (x ∷ xs) ys = map-append g (map (f x) ys) (grid f xs ys) ∙ ap₂ _++_ (map-map g (f x) ys) (map-grid g f xs ys)
 
 -- ---- a list in rows
+
+-- row i of n entries ends within k rows, for i below k
+pub row-ends : (n k i : ℕ) → i < k → i * n + n ≤ k * n
+row-ends n k i h = omega (arith, mul-le-mul-right n h, suc-mul i n)
 
 module _ {ℓ} {A : Type ℓ} where
   -- the first k rows of n entries each

@@ -1,7 +1,7 @@
 -- Division as the machine does it, cut toward 0: the library's `quotZ` and `remZ`, against division rounded down.
 use mathlib.Core.Path.{_≡_, refl, sym, ap, _∙_}
 use Prim.Native.Nat.{ℕ, zero, suc, _+_, _*_, _/_, _%_, _-_, _≤_, _<_}
-use native.Mathlib.Nat.{div-add-mod', mod-lt, div-le-self}
+use native.Mathlib.Nat.{div-add-mod', mod-lt, div-le-self, div-mul-le-self}
 use native.Mathlib.Omega.{arith}
 use lib.IntN.{ℤ, pos, negsuc, negℤ, _+ℤ_, _-ℤ_, _*ℤ_, negℤ-+ℤ, -ℤ-+ℤ-cancel, natAbs}
 use lib.Signed.{_≤ℤ_, _<ℤ_, quotZ, remZ}
@@ -27,6 +27,11 @@ rem-size (negsuc a) m h = omega (arith, mod-lt (suc a) h, size-neg (pos (suc a %
 pub quot-size : (x : ℤ) (m : ℕ) → natAbs (quotZ x (pos m)) ≤ natAbs x
 quot-size (pos a) m = div-le-self a m
 quot-size (negsuc a) m = omega (arith, div-le-self (suc a) m, size-neg (pos (suc a / m)))
+
+-- and its multiple is not either
+pub quot-times-size : (x : ℤ) (m : ℕ) → natAbs (quotZ x (pos m)) * m ≤ natAbs x
+quot-times-size (pos a) m = div-mul-le-self a m
+quot-times-size (negsuc a) m = rw size-neg (div-mul-le-self (suc a) m)
 
 -- where the remainder is not negative, the quotient is x/m rounded down
 pub quot-floor : (x : ℤ) (m : ℕ) → 0 < m → pos 0 ≤ℤ remZ x (pos m) → Floor x m (quotZ x (pos m))

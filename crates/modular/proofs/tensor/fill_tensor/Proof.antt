@@ -1,0 +1,123 @@
+-- `modular::tensor::fill_tensor` writes the tensor of c and d, row after row.
+-- Invariant: at is u rows on, and the first at entries of out are the tensor's, the others as found (`Filled`). A turn lends the part of
+-- one row to `fill_row`, which gives it back as row u. The measure is what is left of c. Assumes nothing.
+use mathlib.Core.Path.{_≡_, sym, ap, _∙_}
+use mathlib.Core.List.{List, map}
+use Prim.Native.Nat.{ℕ, _≤_, _-_, _<_, _+_, _*_}
+use native.Mathlib.Omega.{arith}
+use native.Mathlib.Nat.{mul-le-mul-right, add-sub-cancel-left}
+use lib.IntN.{ℤ, pos}
+use lib.ListN.{length, getD, take, drop}
+use mir.Syntax.{w64}
+use mir.Facts.{toZ-ofZ}
+use borrow.Author.Needs.{sfits-of}
+use borrow.Rule.Slice.PartMut.{mid-len}
+use Rattle.whole.specs.Lists.{all-getD, length-grid, grid-row, row-ends, Filled, fill-start, fill-part, fill-end}
+use Rattle.scheme.specs.Arithmetic.{isResidue, tensorEntry, tensor}
+use Rattle.modular.proofs.tensor.fill_tensor.Statement.{statement}
+use Rattle.modular.proofs.tensor.fill_tensor.Tie as tie
+
+-- the tensor has a row of `length d` entries for each entry of c, and row u is what `fill_row` writes
+tensor-length : (q : ℕ) (c d : List ℤ) → length (tensor q c d) ≡ length c * length d
+unfolding tensor
+tensor-length q c d = length-grid (tensorEntry q) c d
+
+tensor-row : (q : ℕ) (c d : List ℤ) (u : ℕ) → u < length c → take (length d) (drop (u * length d) (tensor q c d)) ≡ map (tensorEntry q (getD c u (pos 0))) d
+unfolding tensor
+tensor-row q c d u h = grid-row (tensorEntry q) c d u (pos 0) h
+
+abbrev Inv-loop : tie.InvT-loop
+Inv-loop q c d out₀ n at₀ u₀ out at u = (u ≤ length c) × (at ≡ u * length d) × Filled (tensor q c d) out₀ out at
+
+abbrev μ-loop : tie.MeasureT-loop
+μ-loop q c d out₀ n at₀ u₀ out at u = length c - u
+
+-- in a turn the row lies within the tensor
+inside : (c : tie.In-loop Inv-loop μ-loop) → c .before .loop .at + length (c .before .before .args .d .now) ≤ length (c .before .before .args .out .now)
+inside c = omega (arith, row-ends (length (c .before .before .args .d .now)) (length (c .before .before .args .c .now)) (c .before .loop .u) (c .loop-test .taken))
+
+loop-holds : tie.Need-loop-holds Inv-loop μ-loop
+loop-holds c = (omega arith, omega arith, fill-start _ _ (rw (tensor-length, c .pre .3)))
+
+add-end : tie.Need-add-end Inv-loop μ-loop
+add-end c = omega (arith, inside c)
+
+mul-fill-row : tie.Need-mul-fill-row Inv-loop μ-loop
+mul-fill-row c = omega arith
+
+shared-slice-copy-out-fill-row : tie.Need-shared-slice-copy-out-fill-row Inv-loop μ-loop
+shared-slice-copy-out-fill-row c = omega arith
+
+mul-fill-row-2 : tie.Need-mul-fill-row-2 Inv-loop μ-loop
+mul-fill-row-2 c = omega (arith, inside (c .before))
+
+sub-fill-row : tie.Need-sub-fill-row Inv-loop μ-loop
+sub-fill-row c = omega arith
+
+part-fill-row-start : tie.Need-part-fill-row-start Inv-loop μ-loop
+part-fill-row-start c = omega arith
+
+part-fill-row-end : tie.Need-part-fill-row-end Inv-loop μ-loop
+part-fill-row-end c = omega (arith, inside (c .before))
+
+fill-row-requires : tie.Need-fill-row-requires Inv-loop μ-loop
+fill-row-requires c κs =
+    let l = c .before .before .before in
+    let s = l .before in
+    let h : l .loop .at + length (s .args .d .now) ≤ length (l .loop .out) = omega (arith, inside (c .before .before)) in (
+      s .pre .0,
+      simp (toZ-ofZ, sfits-of {w = w64} {z = getD (s .args .c .now) (l .loop .u) (pos 0)} (c .before .fill-row-arg .given)) (all-getD (isResidue (s .args .q)) (s .args .c .now) (l .loop .u) (pos 0) (s .pre .1) (c .before .before .loop-test .taken)),
+      s .pre .2,
+      mid-len (l .loop .at) (l .loop .at + length (s .args .d .now)) (l .loop .out) h ∙ add-sub-cancel-left (l .loop .at) (length (s .args .d .now)),
+    )
+
+add-u : tie.Need-add-u Inv-loop μ-loop
+add-u c = omega arith
+
+loop-less : tie.Need-loop-less Inv-loop μ-loop
+loop-less c = omega arith
+
+loop-again : tie.Need-loop-again Inv-loop μ-loop
+loop-again c =
+    let t = c .before .before .before .before in
+    let l = t .before in
+    let s = l .before in
+    let d = s .args .d .now in
+    let q = s .args .q in
+    let e = s .args .c .now in (
+      omega arith,
+      omega arith,
+      rw (add-sub-cancel-left (l .loop .at) (length d))
+          (fill-part (length d) (l .loop .inv .2) (inside t)
+          (c .before .fill-row .ensures
+          ∙ ap (λ (x : ℤ). map (tensorEntry q x) d) (toZ-ofZ (sfits-of (c .before .before .before .fill-row-arg .given)))
+          ∙ sym (ap (λ (k : ℕ). take (length d) (drop k (tensor q e d))) (l .loop .inv .1) ∙ tensor-row q e d (l .loop .u) (t .loop-test .taken)))),
+    )
+
+same-length : tie.Need-same-length Inv-loop μ-loop
+same-length c = c .before .loop .inv .2 .kept
+
+returns : tie.Need-returns Inv-loop μ-loop
+returns c =
+    fill-end (c .before .loop .inv .2) (omega (arith, mul-le-mul-right (length (c .before .before .args .d .now)) (c .loop-test .left)))
+
+pub fill-tensor-spec : {M : Type 1} → statement M
+fill-tensor-spec =
+    tie.close
+    (tie.spec
+    Inv-loop
+    μ-loop
+    loop-holds
+    add-end
+    mul-fill-row
+    shared-slice-copy-out-fill-row
+    mul-fill-row-2
+    sub-fill-row
+    part-fill-row-start
+    part-fill-row-end
+    fill-row-requires
+    add-u
+    loop-less
+    loop-again
+    same-length
+    returns)

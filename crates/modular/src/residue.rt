@@ -1,0 +1,32 @@
+ghost use mathlib.Core.Path.{_≡_};
+ghost use Rattle.whole.specs.Centred.{centred};
+ghost use Rattle.modular.specs.Loans.{Modulus, Near};
+use crate::centre::centre;
+use crate::centre::one_turn;
+
+// A number modulo q, in -q/2 to q/2-1. Every entry that is written to a ciphertext comes out of one.
+pub struct Residue(i64);
+
+impl Residue {
+    // [x]q
+    pub fn of(x: i64, q: u32) -> Residue
+        requires { ⌜ Modulus q ⌝ }
+        ensures { λ r. ⌜ r .0 ≡ centred q x ⌝ }
+    {
+        Residue(centre(x, q as u64))
+    }
+
+    // [x]q for an x that is at most q outside the range, which takes no division.
+    pub fn near(x: i64, q: u32) -> Residue
+        requires { ⌜ Modulus q × Near q x ⌝ }
+        ensures { λ r. ⌜ r .0 ≡ centred q x ⌝ }
+    {
+        Residue(one_turn(x, q as u64))
+    }
+
+    pub fn value(self) -> i64
+        ensures { λ r. ⌜ r ≡ self .0 ⌝ }
+    {
+        self.0
+    }
+}

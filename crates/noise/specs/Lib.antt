@@ -1,0 +1,9 @@
+pub mod Noise
+pub mod Bounds
+pub mod Gates
+pub mod Fresh
+pub mod Reduced
+pub mod Tensor
+pub mod Switch
+pub mod Built
+pub mod And

@@ -1,0 +1,1 @@
+// The noise facts: theorems alone, in specs/.

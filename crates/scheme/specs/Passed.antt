@@ -1,0 +1,48 @@
+-- What it tells that a test of a call does not apply, and that it does: the facts that a call works by once its number is 0.
+use mathlib.Core.Path.{_≡_, sym, _∙_}
+use mathlib.Core.Bool.{Bool, true, false, not, _&&_}
+use mathlib.Core.List.{List}
+use Prim.Native.Nat.{ℕ, _*_, _≤_, _<_}
+use lib.Dec.{leb, ltb, eqb}
+use lib.IntN.{ℤ, pos, natAbs}
+use lib.ListN.{getD}
+use borrow.Author.Tests.{ltb-true, leb-true, eqb-true, eq-eqb, not-false}
+use Rattle.whole.specs.Tests.{and-left, and-right, eqZ, eqZ-true}
+use Rattle.whole.specs.Lists.{all, Each, all-each}
+use Rattle.whole.specs.Inner.{sizes}
+use Rattle.refusal.specs.declared.Params.{Params}
+use Rattle.refusal.specs.Parameters.{inRange, InRange, in-range}
+use Rattle.scheme.specs.Arithmetic.{isResidue, isKey, fits}
+use Rattle.scheme.specs.Calls.{badParams, differs, badKey, badBit, outside, exceeds, overBudget}
+
+pub params-in-range : (p : Params) → badParams p ≡ false → InRange p
+unfolding badParams
+params-in-range p e = in-range p (not-false (inRange p) e)
+
+pub length-is : (a b : ℕ) → differs a b ≡ false → a ≡ b
+unfolding differs
+length-is a b e = eqb-true a b (not-false (eqb a b) e)
+
+pub key-begins : (L : ℕ) (s : List ℤ) → badKey L s ≡ false → getD s 0 (pos 0) ≡ pos 1
+unfolding badKey isKey
+key-begins L s e = eqZ-true (getD s 0 (pos 0)) (pos 1) (and-left (eqZ (getD s 0 (pos 0)) (pos 1)) (leb (sizes s) L) (not-false _ e))
+
+pub key-within : (L : ℕ) (s : List ℤ) → badKey L s ≡ false → sizes s ≤ L
+unfolding badKey isKey
+key-within L s e = leb-true (sizes s) L (and-right (eqZ (getD s 0 (pos 0)) (pos 1)) (leb (sizes s) L) (not-false _ e))
+
+pub bit-within : (b : ℕ) → badBit b ≡ false → b ≤ 1
+unfolding badBit
+bit-within b e = leb-true b 1 (not-false (leb b 1) e)
+
+pub entries-inside : (m : ℕ) (xs : List ℤ) → outside m xs ≡ false → all (isResidue m) xs ≡ true
+unfolding outside
+entries-inside m xs e = not-false (all (isResidue m) xs) e
+
+pub errors-within : (limit : ℕ) (es : List ℤ) → exceeds limit es ≡ false → Each (λ e. natAbs e ≤ limit) es
+unfolding exceeds
+errors-within limit es e = all-each (λ x. leb (natAbs x) limit) es (λ x t. leb-true (natAbs x) limit t) (not-false _ e)
+
+pub bound-fits : (q B : ℕ) → overBudget q B ≡ false → 4 * B < q
+unfolding overBudget fits
+bound-fits q B e = ltb-true (4 * B) q (not-false (ltb (4 * B) q) e)

@@ -1,0 +1,93 @@
+-- Wrong engines whose code could not keep the shape of ours, each shut out by an input on which the promise differs from it. On sheet 0 (q 16)
+-- with s = (1,1) unless another sheet is named; document 01 names these engines in *What the promises must pin*.
+use mathlib.Core.Path.{_≡_, refl}
+use mathlib.Core.Bool.{true, false}
+use mathlib.Core.List.{List, [], _∷_, map, zipWith, flatMap}
+use Prim.Native.Nat.{ℕ}
+use lib.IntN.{ℤ, pos, natAbs}
+use lib.ListN.{length, replicate}
+use Rattle.whole.specs.Tests.{eqZ}
+use Rattle.whole.specs.Round.{round}
+use Rattle.whole.specs.Centred.{centred, rest}
+use Rattle.whole.specs.Lists.{all, tabulate, grid, cut}
+use Rattle.whole.specs.Inner.{inner, sizes, column}
+use Rattle.refusal.specs.First.{firstOf, doneOr}
+use Rattle.refusal.specs.Parameters.{inRange, sheet, sheets, sheetTable}
+use Rattle.scheme.specs.Arithmetic.{isResidue, isKey, encrypt, decrypt, XOR, XOR-bound, NOT, NOT-bound, tensorEntry, tensor, keyRows, maskColumn, rowZeroEntry, switchingKey, switchEntry, switch, AND, AND-bound, fits}
+use Rattle.scheme.specs.Calls.{badParams, differs, badKey, badBit, outside, exceeds, overBudget, bounded, decrypted, encryptRows, encryptAnswer, encryptResult, decryptRows, decryptAnswer, xorRows, xorAnswer, xorResult, notRows, notAnswer, notResult, andRows, andAnswer, andResult, andScratch, makeKeyRows, makeKeyResult, benchRows, benchKey}
+use Rattle.scheme.specs.Figures.{−, pair, four}
+
+abbrev s : List ℤ
+s = pair (pos 1) (pos 1)
+
+-- what a result buffer holds at entry here
+abbrev found : List ℤ
+found = pair (pos 9) (pos 9)
+
+-- an engine that refuses everything, one that writes nothing, and one that returns the error's size: an encryption with error 0 is accepted,
+-- states the bound E = 1, and writes (5,3)
+pub encryption-accepted : encryptAnswer (sheet 0) s 1 (pos 3 ∷ []) (pos 0) 2 ≡ bounded 0 1
+unfolding encryptAnswer encryptRows firstOf doneOr badParams inRange sheet sheets sheetTable differs badKey isKey eqZ sizes badBit outside all isResidue exceeds
+encryption-accepted = refl
+
+pub encryption-written : encryptResult (sheet 0) s 1 (pos 3 ∷ []) (pos 0) found ≡ pair (pos 5) (pos 3)
+unfolding encryptResult encryptRows encrypt firstOf doneOr badParams inRange sheet sheets sheetTable differs badKey isKey eqZ sizes badBit outside all isResidue exceeds centred rest inner
+encryption-written = refl
+
+-- one fixed ciphertext: the encryption of 0 with the same mask and error is another
+pub another-encryption : encryptResult (sheet 0) s 0 (pos 3 ∷ []) (pos 0) found ≡ pair (− 3) (pos 3)
+unfolding encryptResult encryptRows encrypt firstOf doneOr badParams inRange sheet sheets sheetTable differs badKey isKey eqZ sizes badBit outside all isResidue exceeds centred rest inner
+another-encryption = refl
+
+-- one fixed bit: the two decrypt to 1 and to 0
+pub decrypts-one : decryptAnswer (sheet 0) s (pair (pos 5) (pos 3)) ≡ decrypted 0 1
+unfolding decryptAnswer decryptRows decrypt firstOf doneOr badParams inRange sheet sheets sheetTable differs badKey isKey eqZ sizes outside all isResidue centred rest inner
+decrypts-one = refl
+
+pub decrypts-zero : decryptAnswer (sheet 0) s (pair (− 3) (pos 3)) ≡ decrypted 0 0
+unfolding decryptAnswer decryptRows decrypt firstOf doneOr badParams inRange sheet sheets sheetTable differs badKey isKey eqZ sizes outside all isResidue centred rest inner
+decrypts-zero = refl
+
+-- a bound that is the largest that fits: XOR of bounds 1 and 1 states 2 and not 3, and NOT of bound 1 states 1
+pub xor-states-two : xorAnswer (sheet 0) (pair (pos 6) (pos 3)) 1 (pair (pos 6) (pos 3)) 1 2 ≡ bounded 0 2
+unfolding xorAnswer xorRows XOR-bound firstOf doneOr badParams inRange sheet sheets sheetTable differs outside all isResidue overBudget fits
+xor-states-two = refl
+
+pub not-states-one : notAnswer (sheet 0) (pair (pos 6) (pos 3)) 1 2 ≡ bounded 0 1
+unfolding notAnswer notRows NOT-bound firstOf doneOr badParams inRange sheet sheets sheetTable differs outside all isResidue overBudget fits
+not-states-one = refl
+
+-- a call that writes nothing: XOR and NOT write another ciphertext than was found
+pub xor-writes : xorResult (sheet 0) (pair (pos 6) (pos 3)) 1 (pair (pos 6) (pos 3)) 1 found ≡ pair (− 4) (pos 6)
+unfolding xorResult xorRows XOR XOR-bound zipWith firstOf doneOr badParams inRange sheet sheets sheetTable differs outside all isResidue overBudget fits centred rest
+xor-writes = refl
+
+pub not-writes : notResult (sheet 0) (pair (pos 6) (pos 3)) 1 found ≡ pair (− 2) (pos 3)
+unfolding notResult notRows NOT firstOf doneOr badParams inRange sheet sheets sheetTable differs outside all isResidue overBudget fits centred rest
+not-writes = refl
+
+-- AND on sheet 1: zero ciphertexts with bounds 2 and 2 under a zero switching key are accepted with bound 34; scratch does not stay as it was,
+-- and the result is not left as found
+pub and-accepted : andAnswer (sheet 1) (replicate 4 (pos 0)) 2 (replicate 4 (pos 0)) 2 (replicate 64 (pos 0)) 16 4 ≡ bounded 0 34
+unfolding andAnswer andRows AND-bound firstOf doneOr badParams inRange sheet sheets sheetTable differs outside all isResidue overBudget fits
+and-accepted = refl
+
+pub and-clears : andScratch (sheet 1) (replicate 4 (pos 0)) 2 (replicate 4 (pos 0)) 2 (replicate 64 (pos 0)) (replicate 16 (pos 7)) (replicate 4 (pos 7)) ≡ replicate 16 (pos 0)
+unfolding andScratch andRows AND-bound firstOf doneOr badParams inRange sheet sheets sheetTable differs outside all isResidue overBudget fits
+and-clears = refl
+
+pub and-writes : andResult (sheet 1) (replicate 4 (pos 0)) 2 (replicate 4 (pos 0)) 2 (replicate 64 (pos 0)) (replicate 16 (pos 7)) (replicate 4 (pos 7)) ≡ replicate 4 (pos 0)
+unfolding andResult andRows AND AND-bound switch switchEntry keyRows tensor tensorEntry firstOf doneOr badParams inRange sheet sheets sheetTable differs outside all isResidue overBudget fits centred rest round grid flatMap cut inner
+and-writes = refl
+
+-- the maker of switching keys writes document 01's key
+pub key-written : makeKeyResult (sheet 0) s (four (pos 100) (− 100) (pos 7) (pos 0)) (four (pos 1) (pos 0) (pos 0) (− 1)) (replicate 8 (pos 9))
+    ≡ − 83 ∷ pos 116 ∷ pos 9 ∷ pos 15 ∷ four (pos 100) (− 100) (pos 7) (pos 0)
+unfolding makeKeyResult makeKeyRows switchingKey rowZeroEntry maskColumn tabulate cut column firstOf doneOr badParams inRange sheet sheets sheetTable differs badKey isKey eqZ sizes outside all isResidue exceeds centred rest inner
+key-written = refl
+
+-- the bench key is not all zeros: of s = (1,0,0,0), zero masks and zero errors it begins with q
+pub bench-written : benchKey (four (pos 1) (pos 0) (pos 0) (pos 0)) (replicate 48 (pos 0)) (replicate 16 (pos 0))
+    ≡ (pos 65536 ∷ replicate 15 (pos 0)) ∷ replicate 3 (replicate 16 (pos 0))
+unfolding benchKey benchRows switchingKey rowZeroEntry maskColumn tabulate cut column firstOf doneOr sheet sheets sheetTable differs badKey isKey eqZ sizes outside all isResidue exceeds centred rest inner
+bench-written = refl

@@ -1,0 +1,3 @@
+-- Laws that several proofs of the crate cite.
+pub mod Counting
+pub mod Signs

@@ -1,0 +1,13 @@
+-- What the contracts cite: a cursor's bytes lie in the block, and a count is of numbers at the front of a slice. Assumes nothing.
+use Prim.Native.Nat.{ℕ, _≤_}
+use mathlib.Core.Path.{_≡_}
+use mathlib.Core.List.{List}
+use lib.ListN.{length, take}
+
+-- the bytes from at up to end are bytes of the block
+abbrev pub Within : ℕ → ℕ → List ℕ → Type 0
+Within at end block = (at ≤ end) × (end ≤ length block)
+
+-- n counts numbers at the front of xs. The second part follows from the first. Both are stated so that the proof that Rattle makes of `&xs[0..n]` finds them
+abbrev pub Counts : {A : Type 0} → ℕ → List A → Type 0
+Counts n xs = (n ≤ length xs) × (n ≡ length (take n xs))
