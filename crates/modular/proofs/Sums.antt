@@ -8,27 +8,16 @@ use native.Mathlib.Omega.{arith}
 use lib.ListN.{length, getD, take, drop, length-take}
 use lib.IntN.{ℤ, pos, _+ℤ_, _*ℤ_, natAbs}
 use lib.Signed.{quotZ, remZ}
-use mir.Syntax.{Width, w32, w64}
-use mir.Val.{SFits, toZ, ofZ}
-use mir.Facts.{toZ-ofZ, sfits-widen}
+use mir.Syntax.{w64}
+use mir.Val.{SFits}
+use mir.Facts.{toZ-ofZ}
 use Rattle.whole.specs.Size.{size-add}
 use Rattle.whole.specs.Ring.{by-ring, quote}
 use Rattle.whole.specs.Rem.{quot-rem, rem-size, quot-times-size}
 use Rattle.whole.specs.Lists.{each-part}
-use Rattle.whole.specs.Machine.{fits64}
+use Rattle.whole.specs.Machine.{word, fits64}
 use Rattle.whole.specs.Inner.{inner, inner-suc, inner-part, inner-most, inner-turn, sizes}
 use Rattle.modular.specs.Loans.{UpTo}
-
--- z, written to a word and read again
-abbrev pub word : Width → ℤ → ℤ
-word w z = toZ w (ofZ w z)
-
--- a number of 32 bits fits one of 64, and is read there as it was
-pub sfits-word : {z : ℤ} → SFits w32 z → SFits w64 (word w32 z)
-sfits-word f = simp (toZ-ofZ, f) (sfits-widen tt f)
-
-pub widened : {z : ℤ} → SFits w32 z → word w64 (word w32 z) ≡ z
-widened f = simp (toZ-ofZ, f, sfits-widen {w′ = w64} tt f)
 
 -- to the sum of the first i products the next one, x·y, is added: the product fits a word, the new sum does, and it is the sum of the first i+1
 pub record Turn (s c : List ℤ) (i : ℕ) (sum x y : ℤ) : Type 0 where

@@ -16,10 +16,10 @@ use Rattle.whole.specs.Centred.{centred}
 use Rattle.whole.specs.Lists.{grid, getD-grid-place, each-map, each-always, all, each-all, length-cut}
 use Rattle.whole.specs.Inner.{inner, inner-comm, sizes, column}
 use Rattle.scheme.specs.Arithmetic.{half, isResidue, noise, tensor, keyRows, switchEntry, switch, AND, AND-bound}
-use Rattle.scheme.specs.Wording.{centred-residue}
+use Rattle.scheme.specs.Wording.{centred-residue, length-tensor}
 use Rattle.noise.specs.Noise.{Written, written, noise-le, size-fact}
 use Rattle.noise.specs.Reduced.{residues-size}
-use Rattle.noise.specs.Tensor.{halves, TensorNoise, tensor-size, length-tensor, tensor-noise, tensor-bound}
+use Rattle.noise.specs.Tensor.{halves, TensorNoise, tensor-size, tensor-noise, tensor-bound}
 use Rattle.noise.specs.Switch.{SwitchNoise, switch-noise}
 use Rattle.noise.specs.Built.{BuiltFor}
 

@@ -38,11 +38,6 @@ pub tensor-size : (q : ℕ) (c d : List ℤ) → 0 < q → Each (λ x. natAbs x 
 tensor-size q c d h =
     rw tensor-rounds (each-map (λ z. centred q (round z q)) (each-always (λ z. omega (arith, centred-half q (round z q) h)) (doubles c d)))
 
--- and it has one for each pair
-pub length-tensor : (q : ℕ) (c d : List ℤ) → length (tensor q c d) ≡ length c * length d
-unfolding tensor
-length-tensor q c d = length-grid (tensorEntry q) c d
-
 -- the inner product of s⊗s with the 2·cu·dv is 2·<s,c>·<s,d>
 inner-doubles : (s c d : List ℤ) → length s ≡ length d → inner (grid _*ℤ_ s s) (doubles c d) ≡ pos 2 *ℤ (inner s c *ℤ inner s d)
 inner-doubles s c d same = inner-scale (pos 2) (grid _*ℤ_ s s) (grid _*ℤ_ c d) ∙ ap (λ z. pos 2 *ℤ z) (inner-grid s c s d same)

@@ -4,7 +4,7 @@
 use mathlib.Core.Path.{_≡_, refl, sym}
 use mathlib.Core.Logic.{_⊎_, inl, inr, ⊎-elim, _≢_}
 use mathlib.Core.Bool.{Bool, true, false, cond, _&&_, _||_}
-use mathlib.Core.List.{List, [], _∷_}
+use mathlib.Core.List.{List, [], _∷_, _++_}
 use Prim.Native.Nat.{ℕ, zero, suc, _≤_, _<_}
 use native.Mathlib.Nat.{le-of-eq, le-of-lt, not-suc-le-zero, le-of-suc-le-suc}
 use native.Mathlib.Omega.{arith}
@@ -107,6 +107,22 @@ first-clear (r ∷ rows) k up e = by-test (r .applies) refl e (first-clear rows 
     by-test : (t : Bool) → r .applies ≡ t → cond t (r .number) (firstOf rows) ≡ 0 → (firstOf rows ≡ 0 → Clear rows) → Clear (r ∷ rows)
     by-test true f z later = absurd (omega (arith, ltb-true k (r .number) number-up))
     by-test false f z later = (f, later z)
+
+-- rows tested in two stages: where one of the front rows applies the number is theirs, and where none does it is that of the rest
+pub first-front : (front rest : List Row) → firstOf front ≢ 0 → firstOf (front ++ rest) ≡ firstOf front
+unfolding firstOf
+first-front [] rest h = absurd (h refl)
+first-front (r ∷ front) rest h = by-test (r .applies) h (first-front front rest)
+  where
+    by-test : (t : Bool) → cond t (r .number) (firstOf front) ≢ 0 → (firstOf front ≢ 0 → firstOf (front ++ rest) ≡ firstOf front)
+        → cond t (r .number) (firstOf (front ++ rest)) ≡ cond t (r .number) (firstOf front)
+    by-test true g later = refl
+    by-test false g later = later g
+
+pub first-rest : (front rest : List Row) → Clear front → firstOf (front ++ rest) ≡ firstOf rest
+unfolding firstOf
+first-rest [] rest clear = refl
+first-rest (r ∷ front) rest clear = rw (clear .0) (first-rest front rest (clear .1))
 
 pub doneOr-done : {A : Type 0} {k : ℕ} (a z : A) → k ≡ 0 → doneOr k a z ≡ a
 unfolding doneOr

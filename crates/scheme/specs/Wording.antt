@@ -14,7 +14,8 @@ use lib.Arith.{digits-lt, digits-div, digits-mod}
 use Rattle.whole.specs.Tests.{and-left, and-right, and-both, leZ-true, ltZ-true, le-leZ, lt-ltZ}
 use Rattle.whole.specs.Split.{zarith, mul-is, up-neg, dn-neg, size-is, apart}
 use Rattle.whole.specs.Centred.{Centred, centred, centred-is, centred-id}
-use Rattle.whole.specs.Lists.{all, getD-grid, getD-map, cut, length-cut, getD-cut-entry, tabulate, length-tabulate, getD-tabulate}
+use Rattle.whole.specs.Round.{round}
+use Rattle.whole.specs.Lists.{all, all-map, grid, map-grid, length-grid, getD-grid, getD-map, cut, length-cut, getD-cut-entry, tabulate, length-tabulate, getD-tabulate}
 use Rattle.whole.specs.Inner.{inner, column}
 use Rattle.refusal.specs.declared.Params.{Params}
 use Rattle.refusal.specs.First.{rising}
@@ -74,6 +75,17 @@ unfolding tensor
 tensor-entry n q c d u v z lc ld hu hv =
     ap (λ (k : ℕ). getD (tensor q c d) (u * k + v) z) (sym ld)
     ∙ getD-grid (tensorEntry q) c d u v z z z (omega arith) (omega arith)
+
+-- the tensor has one entry for each pair, and each is a residue
+pub length-tensor : (q : ℕ) (c d : List ℤ) → length (tensor q c d) ≡ length c * length d
+unfolding tensor
+length-tensor q c d = length-grid (tensorEntry q) c d
+
+pub tensor-residues : (q : ℕ) (c d : List ℤ) → 0 < q → q ≡ 2 * (q / 2) → all (isResidue q) (tensor q c d) ≡ true
+unfolding tensor tensorEntry
+tensor-residues q c d h even =
+    rw (← map-grid (centred q) (λ x y. round (pos 2 *ℤ x *ℤ y) q) c d)
+    (all-map (isResidue q) (centred q) (grid (λ x y. round (pos 2 *ℤ x *ℤ y) q) c d) (λ x. centred-residue q x h even))
 
 -- row i column j of a switching key lies at i·n²+j
 pub key-entry : (n : ℕ) (W : List ℤ) (i j : ℕ) (z : ℤ) → i < n → j < n * n → getD (getD (keyRows n W) i []) j z ≡ getD W (i * (n * n) + j) z

@@ -195,6 +195,14 @@ sizes-suc (x ∷ s) (suc i) = omega (arith, sizes-suc s i)
 pub sizes-take : (s : List ℤ) (i : ℕ) → sizes (take i s) ≤ sizes s
 sizes-take s i = omega (arith, sizes-append (take i s) (drop i s), ap sizes (take-append-drop i s))
 
+-- and so have the last
+pub sizes-drop : (s : List ℤ) (i : ℕ) → sizes (drop i s) ≤ sizes s
+sizes-drop s i = omega (arith, sizes-append (take i s) (drop i s), ap sizes (take-append-drop i s))
+
+-- no entry is larger than all sizes together
+pub entry-size : (s : List ℤ) (i : ℕ) → natAbs (getD s i (pos 0)) ≤ sizes s
+entry-size s i = omega (arith, sizes-suc s i, sizes-take s (suc i))
+
 -- at most m for each entry where none is above m
 pub sizes-most : {m : ℕ} {s : List ℤ} → Each (λ x. natAbs x ≤ m) s → sizes s ≤ length s * m
 unfolding sizes

@@ -286,6 +286,12 @@ module _ {ℓ} {A : Type ℓ} where
         so-far = r;
       }
 
+-- all from i on put in as one part
+pub put-to-end {ℓ} : {A : Type ℓ} (i : ℕ) (xs ys : List A) → take i xs ++ (ys ++ drop (length xs - i) (drop i xs)) ≡ take i xs ++ ys
+put-to-end i xs ys =
+    let all : length (drop i xs) ≤ length xs - i = simp length-drop (omega arith) in
+    rw (drop-of-length-le (drop i xs), append-nil)
+
 -- ---- two lists entry by entry
 
 module _ {ℓ κ μ} {A : Type ℓ} {B : Type κ} {C : Type μ} where

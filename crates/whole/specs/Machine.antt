@@ -1,13 +1,14 @@
 -- Whole numbers in the machine's signed words: a number of a bounded size fits, and where x fits, so do its quotients and remainders,
--- and −(x+1) for a negative x.
-use mathlib.Core.Path.{_≡_, refl}
+-- and −(x+1) for a negative x. A number of 32 bits fits a word of 64 (`widened`).
+use mathlib.Core.Path.{_≡_, refl, ap, _∙_}
 use Prim.Native.Nat.{ℕ, zero, suc, _-_, _/_, _≤_, _<_}
 use native.Mathlib.Omega.{arith}
 use native.Mathlib.Nat.{div-le-self}
 use lib.IntN.{ℤ, pos, negsuc, negℤ, _+ℤ_, _-ℤ_, natAbs}
 use lib.Signed.{mag, mag-rem, quotZ, remZ, _≤ℤ_, _<ℤ_}
-use mir.Syntax.{w64}
-use mir.Val.{SFits}
+use mir.Syntax.{Width, w32, w64}
+use mir.Val.{SFits, toZ, ofZ}
+use mir.Facts.{toZ-ofZ, sfits-widen}
 use Rattle.whole.specs.Split.{zarith, add-is, sub-is, size-is, apart}
 
 mag-size : (z : ℤ) → mag z ≤ natAbs z
@@ -50,3 +51,18 @@ flips (negsuc n) f h =
       value = omega (zarith, add-is (negsuc n) (pos 1), sub-is (pos 0) y);
       size = refl;
     }
+
+-- z, written to a word and read again
+abbrev pub word : Width → ℤ → ℤ
+word w z = toZ w (ofZ w z)
+
+-- where it fits it is read as it was
+pub word-is : {w : Width} {x y : ℤ} → x ≡ y → SFits w y → word w x ≡ y
+word-is {w} e f = ap (word w) e ∙ toZ-ofZ f
+
+-- a number of 32 bits fits one of 64, and is read there as it was
+pub sfits-word : {z : ℤ} → SFits w32 z → SFits w64 (word w32 z)
+sfits-word f = simp (toZ-ofZ, f) (sfits-widen tt f)
+
+pub widened : {z : ℤ} → SFits w32 z → word w64 (word w32 z) ≡ z
+widened f = simp (toZ-ofZ, f, sfits-widen {w′ = w64} tt f)

@@ -12,7 +12,8 @@ use mir.Facts.{toZ-ofZ}
 use borrow.Author.Needs.{needs, sfits-of}
 use Rattle.whole.specs.Inner.{inner, inner-all, column, getD-column-cut, length-column-cut, each-column-cut}
 use Rattle.whole.specs.Lists.{cut, row-ends}
-use Rattle.modular.proofs.Sums.{word, sfits-word, widened, Turn, turn}
+use Rattle.whole.specs.Machine.{word, sfits-word, widened}
+use Rattle.modular.proofs.Sums.{Turn, turn}
 use Rattle.modular.proofs.key.inner_column.Statement.{statement}
 use Rattle.modular.proofs.key.inner_column.Tie as tie
 

@@ -10,7 +10,8 @@ use mir.Val.{toZ}
 use mir.Facts.{toZ-ofZ}
 use borrow.Author.Needs.{needs, sfits-of}
 use Rattle.whole.specs.Inner.{inner, inner-all}
-use Rattle.modular.proofs.Sums.{word, sfits-word, widened, Turn, turn}
+use Rattle.whole.specs.Machine.{word, sfits-word, widened}
+use Rattle.modular.proofs.Sums.{Turn, turn}
 use Rattle.modular.proofs.key.inner_product.Statement.{statement}
 use Rattle.modular.proofs.key.inner_product.Tie as tie
 

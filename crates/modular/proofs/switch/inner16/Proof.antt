@@ -11,7 +11,8 @@ use mir.Val.{toZ}
 use mir.Facts.{toZ-ofZ}
 use borrow.Author.Needs.{needs, sfits-of}
 use Rattle.whole.specs.Inner.{inner, inner-all, sizes-most}
-use Rattle.modular.proofs.Sums.{word, Turn, turn}
+use Rattle.whole.specs.Machine.{word}
+use Rattle.modular.proofs.Sums.{Turn, turn}
 use Rattle.modular.proofs.switch.inner16.Statement.{statement}
 use Rattle.modular.proofs.switch.inner16.Tie as tie
 

@@ -12,7 +12,8 @@ use mir.Facts.{toZ-ofZ}
 use borrow.Author.Needs.{needs, sfits-of}
 use Rattle.whole.specs.Inner.{inner, inner-all}
 use Rattle.whole.specs.Lists.{each-part}
-use Rattle.modular.proofs.Sums.{word, Held, Chunk, chunk}
+use Rattle.whole.specs.Machine.{word}
+use Rattle.modular.proofs.Sums.{Held, Chunk, chunk}
 use Rattle.modular.proofs.switch.row_sum.Statement.{statement}
 use Rattle.modular.proofs.switch.row_sum.Tie as tie
 

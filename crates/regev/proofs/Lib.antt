@@ -1,0 +1,5 @@
+pub mod Added
+pub mod Chain
+pub mod ReadyCipher
+pub mod ReadyGates
+pub mod ReadySwitching

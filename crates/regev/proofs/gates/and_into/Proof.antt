@@ -1,0 +1,64 @@
+-- `regev::gates::and_into` writes the AND of c and d: their tensor into the scratch, its switch into out, and then zeros into the scratch.
+-- Leans on what the three callees ensure; the tensor is as long as the scratch, and its entries are residues (scheme's `Wording`).
+use mathlib.Core.Path.{_≡_, sym, ap, _∙_}
+use Prim.Native.Nat.{ℕ}
+use native.Mathlib.Omega.{arith}
+use lib.IntN.{pos}
+use lib.ListN.{length, replicate}
+use Rattle.scheme.specs.Arithmetic.{AND, switch}
+use Rattle.scheme.specs.Wording.{length-tensor, tensor-residues}
+use borrow.Author.Needs.{needs}
+use Rattle.regev.proofs.gates.and_into.Statement.{statement}
+use Rattle.regev.proofs.gates.and_into.Tie as tie
+
+fill-tensor-requires : tie.Need-fill-tensor-requires
+fill-tensor-requires c κs =
+    let r = c .before .pre in
+    (r .0, r .6, r .7, rw (r .2, r .3) (r .4), omega arith, omega arith)
+
+-- the tensor fills the scratch
+long : (t : tie.After-fill-tensor) → length (t .fill-tensor .last .1 .1 .1 .0) ≡ length (t .before .before .args .scratch .now)
+long t = let r = t .before .before .pre in rw (t .fill-tensor .ensures, length-tensor, r .2, r .3) (sym (r .4))
+
+fill-switch-requires : tie.Need-fill-switch-requires
+fill-switch-requires c κs =
+    let t = c .before .before .before in
+    let s = t .before .before in
+    let r = s .pre in (
+      r .0,
+      r .1,
+      long t ∙ r .4,
+      rw (long t, r .4) (r .5),
+      rw (t .fill-tensor .ensures) (tensor-residues (s .args .q) (s .args .c .now) (s .args .d .now) (r .0 .positive) (r .0 .even)),
+      r .8,
+    )
+
+zero-requires : tie.Need-zero-requires
+zero-requires c κs = search needs
+
+same-length : tie.Need-same-length
+same-length c = search needs
+
+same-length-2 : tie.Need-same-length-2
+same-length-2 c = search needs
+
+returns : tie.Need-returns
+unfolding AND
+returns c =
+    let w = c .before .before .before .before in
+    let t = w .before .before .before .before in
+    let s = t .before .before in (
+      w .fill-switch .ensures ∙ ap (switch (length (s .args .out .now)) (s .args .q) (s .args .key .now)) (t .fill-tensor .ensures),
+      c .before .zero .ensures ∙ ap (λ (k : ℕ). replicate k (pos 0)) (long t),
+    )
+
+pub and-into-spec : {M : Type 1} → statement M
+and-into-spec =
+    tie.close
+    (tie.spec
+    fill-tensor-requires
+    fill-switch-requires
+    zero-requires
+    same-length
+    same-length-2
+    returns)

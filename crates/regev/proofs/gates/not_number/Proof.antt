@@ -1,0 +1,84 @@
+-- `regev::gates::not_number` gives the number of the first row of NOT that applies: each return by what the tests and `row` ensure.
+use mathlib.Core.Path.{sym}
+use Rattle.refusal.specs.First.{firstOf}
+use Rattle.scheme.specs.Calls.{badParams, notRows}
+use Rattle.regev.proofs.Chain.{params-modulus, answered-range}
+use borrow.Author.Needs.{needs}
+use Rattle.regev.proofs.gates.not_number.Statement.{statement}
+use Rattle.regev.proofs.gates.not_number.Tie as tie
+
+in-range-requires : tie.Need-in-range-requires
+in-range-requires c κs = search needs
+
+returns : tie.Need-returns
+unfolding firstOf notRows badParams
+returns c = simp (sym (c .before .in-range .ensures), c .if1 .taken)
+
+cast-n : tie.Need-cast-n
+cast-n c = search needs
+
+length-differs-requires : tie.Need-length-differs-requires
+length-differs-requires c κs = search needs
+
+length-differs-requires-2 : tie.Need-length-differs-requires-2
+length-differs-requires-2 c κs = search needs
+
+returns-2 : tie.Need-returns-2
+unfolding firstOf notRows badParams
+returns-2 c =
+    let d = c .before in
+    simp (
+      sym (d .before .before .before .before .in-range .ensures),
+      d .before .before .before .if1 .left,
+      sym (d .before .length-differs .ensures),
+      sym (d .length-differs2 .ensures),
+      c .if2 .taken,
+    )
+
+is-over-requires : tie.Need-is-over-requires
+is-over-requires c κs = search needs
+
+row-requires : tie.Need-row-requires
+row-requires c κs = search needs
+
+is-outside-requires : tie.Need-is-outside-requires
+is-outside-requires c κs =
+    let a = c .before .before .before .before .before .before in
+    params-modulus (answered-range _ (a .before .in-range .ensures) (a .if1 .left))
+
+row-requires-2 : tie.Need-row-requires-2
+row-requires-2 c κs = search needs
+
+returns-3 : tie.Need-returns-3
+unfolding firstOf notRows badParams
+returns-3 c =
+    let o = c .before in
+    let e = o .before .before .before in
+    let d = e .before in
+    simp (
+      c .row2 .ensures,
+      o .is-outside .ensures,
+      o .before .row .ensures,
+      o .before .before .is-over .ensures,
+      sym (d .before .before .before .before .in-range .ensures),
+      d .before .before .before .if1 .left,
+      sym (d .before .length-differs .ensures),
+      sym (d .length-differs2 .ensures),
+      e .if2 .left,
+    )
+
+pub not-number-spec : {M : Type 1} → statement M
+not-number-spec =
+    tie.close
+    (tie.spec
+    in-range-requires
+    returns
+    cast-n
+    length-differs-requires
+    length-differs-requires-2
+    returns-2
+    is-over-requires
+    row-requires
+    is-outside-requires
+    row-requires-2
+    returns-3)

@@ -1,0 +1,30 @@
+ghost use mathlib.Core.Path.{_≡_};
+ghost use Rattle.scheme.specs.Calls.{keyCheckRows, keyCheckAnswer};
+ghost use Rattle.refusal.specs.First.{firstOf};
+use crate::tests::is_bad_key;
+use crate::tests::length_differs;
+use refusal::Params;
+use refusal::Refusal;
+
+// The number for a key: 1, 3, 4, or 0 where it fits.
+fn key_number(p: Params, s: &[i32]) -> u32
+    ensures { λ r. ⌜ r ≡ firstOf (keyCheckRows p (now (s .entry))) ⌝ }
+{
+    if !p.in_range() {
+        return 1;
+    }
+    if length_differs(s.len(), p.n as usize) {
+        return 3;
+    }
+    refusal::row(4, is_bad_key(p.l, s), 0)
+}
+
+// Key check: whether s is a key for the parameters. Refusals 1, 3, 4.
+pub fn check_key(p: Params, s: &[i32]) -> Refusal
+    ensures { λ r. ⌜ r ≡ keyCheckAnswer p (now (s .entry)) ⌝ }
+{
+    Refusal {
+        number: key_number(p, s),
+        place: 0,
+    }
+}
