@@ -1,15 +1,23 @@
 #include "loops.h"
 
-static int64_t centred(__int128 x, int64_t q) {
-    int64_t r = (int64_t)(x % q);
-    if (2 * r < -q) r += q;
-    if (2 * r >= q) r -= q;
+/* [x]q: in -q/2 to q/2-1. */
+static int64_t centred(int64_t x, int64_t q) {
+    int64_t r = x % q;
+    if (2 * r < -q) return r + q;
+    if (2 * r >= q) return r - q;
     return r;
 }
 
-static __int128 floor_div(__int128 x, int64_t q) {
-    __int128 k = x / q;
-    return x % q < 0 ? k - 1 : k;
+/* round(a/q), a half up. The quotient of a row's sum always fits 64 bits. */
+static int64_t round_int128(__int128 a, int64_t q) {
+    const __int128 raised = a + q / 2;
+    const int64_t k = (int64_t)(raised / q);
+    return raised % q < 0 ? k - 1 : k;
+}
+
+static int64_t round_int64(int64_t a, int64_t q) {
+    const int64_t raised = a + q / 2, k = raised / q;
+    return raised % q < 0 ? k - 1 : k;
 }
 
 /* The exact sum in 128 bits. */
@@ -18,7 +26,7 @@ void switch_int128(uint32_t q, const int64_t *t, uint64_t columns, const int64_t
         const int64_t *row = key + i * columns;
         __int128 sum = 0;
         for (uint64_t j = 0; j < columns; j++) sum += (__int128)t[j] * row[j];
-        out[i] = centred(floor_div(sum + q / 2, q), q);
+        out[i] = centred(round_int128(sum, q), q);
     }
 }
 
@@ -34,13 +42,11 @@ void switch_shape(uint32_t q, const int64_t *t, uint64_t columns, const int64_t 
             hi += sum / 1048576;
             lo += sum % 1048576;
         }
-        for (; j < columns; j++) {
-            int64_t product = t[j] * row[j];
-            hi += product / 1048576;
-            lo += product % 1048576;
-        }
-        int64_t near = hi % ((int64_t)q * q) * 1048576 + lo;
-        out[i] = centred(floor_div(near + q / 2, q), q);
+        int64_t rest = 0;
+        for (; j < columns; j++) rest += t[j] * row[j];
+        hi += rest / 1048576;
+        lo += rest % 1048576;
+        out[i] = centred(round_int64(hi % ((int64_t)q * q) * 1048576 + lo, q), q);
     }
 }
 

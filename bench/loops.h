@@ -1,4 +1,4 @@
-/* The switch in C, three ways that the Rattle loop is held against. */
+/* The switch in C, two ways that the Rattle loop is held against, and a plain read of the key. */
 #include <stdint.h>
 
 void switch_int128(uint32_t q, const int64_t *t, uint64_t columns, const int64_t *key, int64_t *out, uint64_t n);

@@ -59,9 +59,6 @@ mul-near-2 c = omega arith
 shared-slice-copy-out-near-2 : tie.Need-shared-slice-copy-out-near-2 Inv-loop μ-loop
 shared-slice-copy-out-near-2 c = omega arith
 
-add-near : tie.Need-add-near Inv-loop μ-loop
-add-near c = sum (c .before .before) .fits
-
 near-requires : tie.Need-near-requires Inv-loop μ-loop
 near-requires c κs = (c .before .before .before .before .pre .0, sum (c .before .before) .near)
 
@@ -97,6 +94,9 @@ same-length c = c .before .loop .inv .kept
 
 returns : tie.Need-returns Inv-loop μ-loop
 returns c = fill-end (c .before .loop .inv) (omega arith)
+
+add-near : tie.Need-add-near Inv-loop μ-loop
+add-near c = sum (c .before .before) .fits
 
 pub xor-into-spec : {M : Type 1} → statement M
 xor-into-spec =

@@ -1,0 +1,112 @@
+// The cases on lists of entries.
+ghost use Rattle.modular.specs.Loans.{Modulus};
+use crate::guard;
+use crate::print;
+use modular::range::all_big_residues;
+use modular::range::all_residues;
+use modular::range::all_within;
+use modular::switch::fill_switch;
+use modular::switch::switch_entry;
+use modular::tensor::fill_tensor;
+
+// 5: the tensor of c and d, made in `space`, which has to hold it
+pub fn tensor(q: u32, c: &[i64], d: &[i64], space: &mut [i64], text: &mut [u8], at: usize) -> usize
+    requires { ⌜ Modulus q ⌝ }
+{
+    if 1024 < c.len() {
+        return print::refused(text, at);
+    }
+    if 1024 < d.len() {
+        return print::refused(text, at);
+    }
+    let count = c.len() * d.len();
+    if space.len() < count {
+        return print::refused(text, at);
+    }
+    if !all_residues(c, q) {
+        return print::refused(text, at);
+    }
+    if !all_residues(d, q) {
+        return print::refused(text, at);
+    }
+    fill_tensor(q, c, d, &mut space[0..count]);
+    print::all(text, at, &space[0..count])
+}
+
+// 6: the switched entry of a tensor t and a row of the key
+pub fn switched(q: u32, t: &[i64], row: &[i64], text: &mut [u8], at: usize) -> usize
+    requires { ⌜ Modulus q ⌝ }
+{
+    if row.len() != t.len() {
+        return print::refused(text, at);
+    }
+    if 1048576 < t.len() {
+        return print::refused(text, at);
+    }
+    if !all_residues(t, q) {
+        return print::refused(text, at);
+    }
+    if !all_big_residues(row, q) {
+        return print::refused(text, at);
+    }
+    print::one(text, at, switch_entry(q, t, row).value())
+}
+
+// 7: the n switched entries of a tensor t and a key of n rows, made in `space`, which has to hold them
+pub fn switch(
+    q: u32,
+    n: usize,
+    t: &[i64],
+    key: &[i64],
+    space: &mut [i64],
+    text: &mut [u8],
+    at: usize,
+) -> usize
+    requires { ⌜ Modulus q ⌝ }
+{
+    if 1024 < n {
+        return print::refused(text, at);
+    }
+    if space.len() < n {
+        return print::refused(text, at);
+    }
+    if t.len() != n * n {
+        return print::refused(text, at);
+    }
+    if key.len() != n * t.len() {
+        return print::refused(text, at);
+    }
+    if !all_residues(t, q) {
+        return print::refused(text, at);
+    }
+    if !all_big_residues(key, q) {
+        return print::refused(text, at);
+    }
+    fill_switch(q, t, key, &mut space[0..n]);
+    print::all(text, at, &space[0..n])
+}
+
+// 8: whether every entry is in -q/2 to q/2-1
+pub fn residues(q: u32, xs: &[i64], text: &mut [u8], at: usize) -> usize
+    requires { ⌜ Modulus q ⌝ }
+{
+    print::bit(text, at, all_residues(xs, q))
+}
+
+// 9: whether every entry is in -Q/2 to Q/2-1
+pub fn big_residues(q: u32, xs: &[i64], text: &mut [u8], at: usize) -> usize
+    requires { ⌜ Modulus q ⌝ }
+{
+    print::bit(text, at, all_big_residues(xs, q))
+}
+
+// 10: whether every entry is at most limit in size; a limit is a number of 32 bits, from 0 up
+pub fn within(limit: i64, xs: &[i64], text: &mut [u8], at: usize) -> usize {
+    if limit < 0 {
+        return print::refused(text, at);
+    }
+    if 4294967295 < limit {
+        return print::refused(text, at);
+    }
+    print::bit(text, at, all_within(xs, limit as u32))
+}

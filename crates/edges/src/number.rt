@@ -1,0 +1,43 @@
+// The cases on single numbers.
+ghost use Rattle.modular.specs.Loans.{Modulus};
+use crate::guard;
+use crate::print;
+use modular::big_residue::BigResidue;
+use modular::range::all_residues;
+use modular::residue::Residue;
+use modular::round::round_quotient;
+use modular::tensor::tensor_entry;
+
+// 1: [x]q
+pub fn residue(q: u32, x: i64, text: &mut [u8], at: usize) -> usize
+    requires { ⌜ Modulus q ⌝ }
+{
+    print::one(text, at, Residue::of(x, q).value())
+}
+
+// 2: [x]Q
+pub fn big_residue(q: u32, x: i64, text: &mut [u8], at: usize) -> usize
+    requires { ⌜ Modulus q ⌝ }
+{
+    print::one(text, at, BigResidue::of(x, q).value())
+}
+
+// 3: round(a/q), of an a of at most 2^62 in size
+pub fn rounded(q: u32, a: i64, text: &mut [u8], at: usize) -> usize
+    requires { ⌜ Modulus q ⌝ }
+{
+    if !guard::is_up_to(4611686018427387904, a) {
+        return print::refused(text, at);
+    }
+    print::one(text, at, round_quotient(a, q))
+}
+
+// 4: an entry of the tensor
+pub fn tensor(q: u32, x: i64, y: i64, text: &mut [u8], at: usize) -> usize
+    requires { ⌜ Modulus q ⌝ }
+{
+    if !all_residues(&[x, y], q) {
+        return print::refused(text, at);
+    }
+    print::one(text, at, tensor_entry(x, y, q).value())
+}
