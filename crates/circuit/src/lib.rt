@@ -1,3 +1,7 @@
+// Planning and evaluating a circuit of XOR, AND and NOT gates.
+pub mod checks;
+pub mod plan;
+
 // A gate record: kind 0 XOR, 1 AND, 2 NOT, then the wires on its left and its right. Any numbers can be lent.
 pub struct Gate {
     pub kind: u32,

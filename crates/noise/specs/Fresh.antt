@@ -19,7 +19,7 @@ use Rattle.scheme.specs.Passed.{params-in-range, length-is, key-begins, bit-wit
 use Rattle.noise.specs.Gates.{decrypt-fresh, length-encrypt, encrypt-residues}
 
 -- a ciphertext whose length is right and whose entries are residues is decrypted, where the key fits
-decrypt-accepts : (p : Params) (s c : List ℤ) → badParams p ≡ false → differs (length s) (p .n) ≡ false → length c ≡ p .n → badKey (p .l) s ≡ false
+pub decrypt-accepts : (p : Params) (s c : List ℤ) → badParams p ≡ false → differs (length s) (p .n) ≡ false → length c ≡ p .n → badKey (p .l) s ≡ false
     → all (isResidue (p .q)) c ≡ true → firstOf (decryptRows p s c) ≡ 0
 unfolding firstOf decryptRows differs outside
 decrypt-accepts p s c params key-long long key residues = simp (params, key-long, eq-eqb (length c) (p .n) long, key, residues)

@@ -1,16 +1,17 @@
 -- Document 01, *Refusal numbers*: a call gives the lowest number that applies, 0 exactly when none applies; a refusal returns
 -- 0 in every other number and writes no buffer. The refusals of a call are a list of rows, a number with its test, in rising
 -- order (the circuit file alone has an order of its own), and the number of the first row that applies is given.
-use mathlib.Core.Path.{_≡_, refl, sym}
+use mathlib.Core.Path.{_≡_, refl, sym, ap}
 use mathlib.Core.Logic.{_⊎_, inl, inr, ⊎-elim, _≢_}
 use mathlib.Core.Bool.{Bool, true, false, cond, _&&_, _||_}
 use mathlib.Core.List.{List, [], _∷_, _++_}
-use Prim.Native.Nat.{ℕ, zero, suc, _≤_, _<_}
-use native.Mathlib.Nat.{le-of-eq, le-of-lt, not-suc-le-zero, le-of-suc-le-suc}
+use Prim.Native.Nat.{ℕ, zero, suc, _≤_, _<_, suc-le-suc}
+use native.Mathlib.Nat.{le-of-eq, le-of-lt, not-suc-le-zero, le-of-suc-le-suc, zero-lt-suc}
 use native.Mathlib.Omega.{arith}
 use lib.Dec.{ltb}
 use Rattle.whole.specs.Tests.{and-left, and-right, clash}
-use lib.ListN.{getD}
+use Rattle.whole.specs.Lists.{all}
+use lib.ListN.{length, getD}
 use borrow.Author.Tests.{ltb-true}
 
 -- a refusal number, and whether it applies
@@ -124,6 +125,16 @@ unfolding firstOf
 first-rest [] rest clear = refl
 first-rest (r ∷ front) rest clear = rw (clear .0) (first-rest front rest (clear .1))
 
+-- the number given is below m where every row's is
+pub first-below : (m : ℕ) (rows : List Row) → 0 < m → all (λ r. ltb (r .number) m) rows ≡ true → firstOf rows < m
+unfolding firstOf all
+first-below m [] h e = h
+first-below m (r ∷ rows) h e = by-test (r .applies) (ltb-true (r .number) m (and-left (ltb (r .number) m) (all (λ r. ltb (r .number) m) rows) e)) (first-below m rows h (and-right (ltb (r .number) m) (all (λ r. ltb (r .number) m) rows) e))
+  where
+    by-test : (t : Bool) → r .number < m → firstOf rows < m → cond t (r .number) (firstOf rows) < m
+    by-test true here later = here
+    by-test false here later = later
+
 pub doneOr-done : {A : Type 0} {k : ℕ} (a z : A) → k ≡ 0 → doneOr k a z ≡ a
 unfolding doneOr
 doneOr-done a z e = rw e
@@ -147,3 +158,48 @@ none-before-first [] i h = refl
 none-before-first (true ∷ ts) i h = absurd (not-suc-le-zero h)
 none-before-first (false ∷ ts) zero h = refl
 none-before-first (false ∷ ts) (suc i) h = none-before-first ts i (le-of-suc-le-suc h)
+
+-- a search for the place: i is at most the place while no test before i is true, one step further where the test at i is false, and the
+-- place itself where it is true
+pub first-past : (ts : List Bool) (i : ℕ) → i ≤ firstTrue ts → i < length ts → getD ts i false ≡ false → i < firstTrue ts
+unfolding firstTrue
+first-past [] i a h e = absurd (not-suc-le-zero h)
+first-past (true ∷ ts) zero a h e = clash refl e
+first-past (true ∷ ts) (suc i) a h e = absurd (not-suc-le-zero a)
+first-past (false ∷ ts) zero a h e = zero-lt-suc (firstTrue ts)
+first-past (false ∷ ts) (suc i) a h e = suc-le-suc (first-past ts i (le-of-suc-le-suc a) (le-of-suc-le-suc h) e)
+
+pub first-here : (ts : List Bool) (i : ℕ) → i ≤ firstTrue ts → getD ts i false ≡ true → i ≡ firstTrue ts
+unfolding firstTrue
+first-here [] i a e = clash e refl
+first-here (true ∷ ts) zero a e = refl
+first-here (true ∷ ts) (suc i) a e = absurd (not-suc-le-zero a)
+first-here (false ∷ ts) zero a e = clash e refl
+first-here (false ∷ ts) (suc i) a e = ap suc (first-here ts i (le-of-suc-le-suc a) e)
+
+pub first-within : (ts : List Bool) → firstTrue ts ≤ length ts
+unfolding firstTrue
+first-within [] = omega arith
+first-within (true ∷ ts) = omega arith
+first-within (false ∷ ts) = suc-le-suc (first-within ts)
+
+-- some test is true exactly where the place is one of the tests'
+pub some-first : (ts : List Bool) → firstTrue ts < length ts → someTrue ts ≡ true
+unfolding firstTrue someTrue
+some-first [] h = absurd (not-suc-le-zero h)
+some-first (true ∷ ts) h = refl
+some-first (false ∷ ts) h = some-first ts (le-of-suc-le-suc h)
+
+pub none-first : (ts : List Bool) → length ts ≤ firstTrue ts → someTrue ts ≡ false
+unfolding firstTrue someTrue
+none-first [] h = refl
+none-first (true ∷ ts) h = absurd (not-suc-le-zero h)
+none-first (false ∷ ts) h = none-first ts (le-of-suc-le-suc h)
+
+-- where none is, each is false
+pub none-true : (ts : List Bool) (i : ℕ) → someTrue ts ≡ false → getD ts i false ≡ false
+unfolding someTrue
+none-true [] i e = refl
+none-true (true ∷ ts) i e = clash refl e
+none-true (false ∷ ts) zero e = refl
+none-true (false ∷ ts) (suc i) e = none-true ts i e

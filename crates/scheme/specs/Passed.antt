@@ -1,12 +1,12 @@
 -- What it tells that a test of a call does not apply, and that it does: the facts that a call works by once its number is 0.
-use mathlib.Core.Path.{_≡_, sym, _∙_}
+use mathlib.Core.Path.{_≡_, refl, sym, ap, _∙_}
 use mathlib.Core.Bool.{Bool, true, false, not, _&&_}
 use mathlib.Core.List.{List}
 use Prim.Native.Nat.{ℕ, _*_, _≤_, _<_}
 use lib.Dec.{leb, ltb, eqb}
 use lib.IntN.{ℤ, pos, natAbs}
 use lib.ListN.{getD}
-use borrow.Author.Tests.{ltb-true, leb-true, eqb-true, eq-eqb, not-false}
+use borrow.Author.Tests.{ltb-true, lt-ltb, le-ltb, leb-true, eqb-true, eq-eqb, not-false, ltb-false, not-true}
 use Rattle.whole.specs.Tests.{and-left, and-right, eqZ, eqZ-true}
 use Rattle.whole.specs.Lists.{all, Each, all-each}
 use Rattle.whole.specs.Inner.{sizes}
@@ -46,3 +46,41 @@ errors-within limit es e = all-each (λ x. leb (natAbs x) limit) es (λ x t. leb
 pub bound-fits : (q B : ℕ) → overBudget q B ≡ false → 4 * B < q
 unfolding overBudget fits
 bound-fits q B e = ltb-true (4 * B) q (not-false (ltb (4 * B) q) e)
+
+pub bound-over : (q B : ℕ) → overBudget q B ≡ true → q ≤ 4 * B
+unfolding overBudget fits
+bound-over q B e = ltb-false (4 * B) q (not-true (ltb (4 * B) q) e)
+
+-- ---- the tests as a function finds them
+
+pub params-is : (p : Params) → badParams p ≡ not (inRange p)
+unfolding badParams
+params-is p = refl
+
+pub differs-is : (a b : ℕ) → differs a b ≡ not (eqb a b)
+unfolding differs
+differs-is a b = refl
+
+pub lengths-same : (a b : ℕ) → a ≡ b → differs a b ≡ false
+unfolding differs
+lengths-same a b e = ap not (eq-eqb a b e)
+
+pub fits-below : (q B : ℕ) → fits q B ≡ true → 4 * B < q
+unfolding fits
+fits-below q B e = ltb-true (4 * B) q e
+
+pub below-fits : (q B : ℕ) → 4 * B < q → fits q B ≡ true
+unfolding fits
+below-fits q B h = lt-ltb (4 * B) q h
+
+pub above-fits : (q B : ℕ) → q ≤ 4 * B → fits q B ≡ false
+unfolding fits
+above-fits q B h = le-ltb (4 * B) q h
+
+pub below-over : (q B : ℕ) → 4 * B < q → overBudget q B ≡ false
+unfolding overBudget
+below-over q B h = ap not (below-fits q B h)
+
+pub above-over : (q B : ℕ) → q ≤ 4 * B → overBudget q B ≡ true
+unfolding overBudget
+above-over q B h = ap not (above-fits q B h)

@@ -19,7 +19,7 @@ use Rattle.whole.specs.Lists.{all, all-map, grid, map-grid, length-grid, getD-g
 use Rattle.whole.specs.Inner.{inner, column}
 use Rattle.refusal.specs.declared.Params.{Params}
 use Rattle.refusal.specs.First.{rising}
-use Rattle.scheme.specs.Arithmetic.{half, isResidue, tensorEntry, tensor, keyRows, maskColumn, rowZeroEntry, switchingKey}
+use Rattle.scheme.specs.Arithmetic.{half, isResidue, XOR-bound, NOT-bound, tensorEntry, tensor, keyRows, maskColumn, rowZeroEntry, switchingKey}
 use Rattle.scheme.specs.Calls.{keyCheckRows, makeKeyRows, benchRows, encryptRows, decryptRows, xorRows, notRows, andRows}
 
 -- ---- residues
@@ -65,6 +65,17 @@ pub even-square : (q : ℕ) → q ≡ 2 * (q / 2) → q * q ≡ 2 * (q * q / 2)
 even-square q even =
     let e : q * q ≡ 2 * (q / 2 * q) = ap (λ k. k * q) even ∙ mul-assoc 2 (q / 2) q in
     omega arith
+
+-- ---- bounds
+
+-- XOR's is the sum of the two, NOT's is unchanged
+pub XOR-bound-is : (B1 B2 : ℕ) → XOR-bound B1 B2 ≡ B1 + B2
+unfolding XOR-bound
+XOR-bound-is B1 B2 = refl
+
+pub NOT-bound-is : (B : ℕ) → NOT-bound B ≡ B
+unfolding NOT-bound
+NOT-bound-is B = refl
 
 -- ---- places
 

@@ -6,7 +6,7 @@ use mathlib.Core.Path.{_≡_, refl, sym, ap, ap₂, _∙_}
 use mathlib.Core.Bool.{Bool, true, false, cond, _&&_, and-true, and-false, and-assoc, and-eq-true-iff}
 use mathlib.Core.List.{List, [], _∷_, _++_, append-nil, map, map-map, map-append, flatMap, flatten, zipWith, zip, append-assoc}
 use Prim.Native.Nat.{ℕ, zero, suc, _+_, _*_, _≤_, _<_, suc-le-suc, _-_, _/_, _%_}
-use native.Mathlib.Nat.{zero-add, add-zero, add-comm, zero-mul, suc-mul, suc-inj, le-of-suc-le-suc, not-suc-le-zero, zero-lt-suc, mul-le-mul-right, div-add-mod', div-lt-iff-lt-mul, mod-lt}
+use native.Mathlib.Nat.{zero-add, add-zero, add-comm, zero-mul, suc-mul, suc-inj, le-of-suc-le-suc, not-suc-le-zero, zero-lt-suc, mul-le-mul-right, sub-zero, div-add-mod', div-lt-iff-lt-mul, mod-lt}
 use native.Mathlib.Numerals.{add-one}
 use native.Mathlib.Omega.{arith}
 use lib.Dec.{eqb}
@@ -292,6 +292,13 @@ put-to-end i xs ys =
     let all : length (drop i xs) ≤ length xs - i = simp length-drop (omega arith) in
     rw (drop-of-length-le (drop i xs), append-nil)
 
+-- a first part of n entries, put in and read again
+pub put-first {ℓ} : {A : Type ℓ} (n : ℕ) (ys rest : List A) → length ys ≡ n → take (n - 0) (ys ++ rest) ≡ ys
+put-first n ys rest e = rw sub-zero (take-at ys rest n e)
+
+pub put-holds {ℓ} : {A : Type ℓ} (n : ℕ) (ys rest : List A) → length ys ≡ n → n ≤ length (ys ++ rest)
+put-holds n ys rest e = omega (arith, length-append ys rest)
+
 -- ---- two lists entry by entry
 
 module _ {ℓ κ μ} {A : Type ℓ} {B : Type κ} {C : Type μ} where
@@ -457,3 +464,16 @@ module _ {ℓ} {A : Type ℓ} where
   cut-flatten nil = refl
   cut-flatten {n} (cons {x = row} {xs = rows} e es) =
       ap₂ {C = List (List A)} _∷_ (take-at row (flatten rows) n e) (rw (drop-at row (flatten rows) n) (cut-flatten es))
+
+  -- so row i of them, joined, begins at i·n
+  pub getD-flatten : {n : ℕ} {rows : List (List A)} → Each (λ row. length row ≡ n) rows → (i : ℕ) (d : List A) → i < length rows
+      → take n (drop (i * n) (flatten rows)) ≡ getD rows i d
+  getD-flatten {n} {rows} es i d h = sym (getD-cut n (length rows) (flatten rows) i d h) ∙ ap (λ (l : List (List A)). getD l i d) (cut-flatten es)
+
+  -- a test that all entries of the rows pass
+  pub all-flatten : (p : A → Bool) (rows : List (List A)) → all p (flatten rows) ≡ true → Each (λ row. all p row ≡ true) rows
+  unfolding flatten
+  all-flatten p [] t = nil
+  all-flatten p (row ∷ rows) t =
+      let both : (all p row ≡ true) × (all p (flatten rows) ≡ true) = and-eq-true-iff (all p row) (all p (flatten rows)) .0 (sym (all-append p row (flatten rows)) ∙ t) in
+      cons (both .0) (all-flatten p rows (both .1))

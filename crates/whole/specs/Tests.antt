@@ -3,10 +3,10 @@
 use mathlib.Core.Path.{_≡_, refl, sym, ap, _∙_, subst}
 use mathlib.Core.Bool.{Bool, true, false, not, _&&_, _||_, true≢false}
 use Prim.Native.Nat.{ℕ}
-use lib.Dec.{T, eqb, lt→ltb}
+use lib.Dec.{T, eqb, leb, ltb, lt→ltb}
 use lib.IntN.{ℤ, pos, negsuc}
 use lib.Signed.{ltZ, leZ, _≤ℤ_, _<ℤ_, ltZ-yes, ltZ-no, leZ-yes, clashℤ}
-use borrow.Author.Tests.{eqb-true, eq-eqb, leb-false}
+use borrow.Author.Tests.{eqb-true, eq-eqb, leb-false, ltb-true, ltb-false, le-leb, lt-leb}
 
 -- no test is both
 pub clash {ℓ} : {X : Type ℓ} {t : Bool} → t ≡ true → t ≡ false → X
@@ -33,6 +33,14 @@ or-right false b e = e
 
 pub or-neither : {a b : Bool} → a ≡ false → b ≡ false → (a || b) ≡ false
 or-neither {a} {b} p q = cc
+
+-- not below is at or above
+pub not-ltb : (a b : ℕ) → not (ltb a b) ≡ leb b a
+not-ltb a b = by-test (ltb a b) refl
+  where
+    by-test : (t : Bool) → ltb a b ≡ t → not t ≡ leb b a
+    by-test true e = sym (lt-leb b a (ltb-true a b e))
+    by-test false e = sym (le-leb b a (ltb-false a b e))
 
 -- ---- whole numbers
 

@@ -1,0 +1,2 @@
+pub mod Planned
+pub mod Settling

@@ -1,0 +1,118 @@
+-- Demand 3 is not empty. With n 2, q 64, L 2, E 1, F 1, the key s = (1,1), a switching key made from masks (100,-100,7,0) and errors
+-- (1,0,0,-1), and two encryptions of 1, document 01's example circuit meets every premise and is accepted, and the bit of its AND is 1.
+use mathlib.Core.Path.{_≡_, refl}
+use mathlib.Core.List.{List, [], _∷_, flatMap, flatten, zipWith}
+use Prim.Native.Nat.{ℕ, zero, suc, _≤_, _<_}
+use native.Mathlib.Nat.{le-refl}
+use native.Mathlib.Omega.{arith}
+use lib.Dec.{leb}
+use lib.IntN.{ℤ, pos}
+use lib.ListN.{length, getD}
+use borrow.Author.Tests.{leb-true}
+use Rattle.whole.specs.Tests.{eqZ}
+use Rattle.whole.specs.Round.{round}
+use Rattle.whole.specs.Centred.{centred, rest}
+use Rattle.whole.specs.Lists.{all, all-each, tabulate, grid, cut}
+use Rattle.whole.specs.Inner.{inner, sizes, column}
+use Rattle.refusal.specs.declared.Params.{Params}
+use Rattle.refusal.specs.First.{firstOf, doneOr-done, someTrue, firstTrue}
+use Rattle.refusal.specs.Parameters.{params, inRange, sheet, sheets, sheetTable, refused}
+use Rattle.scheme.specs.Arithmetic.{isResidue, isKey, noise, XOR, XOR-bound, NOT, NOT-bound, tensorEntry, tensor, keyRows, maskColumn, rowZeroEntry, switchingKey, switchEntry, switch, AND, AND-bound, fits}
+use Rattle.scheme.specs.Calls.{badParams, differs, badKey, outside, exceeds, overBudget, keyCheckRows}
+use Rattle.scheme.specs.Passed.{errors-within}
+use Rattle.scheme.specs.Figures.{−, pair, four}
+use Rattle.noise.specs.Built.{MadeFor, made→built}
+use Rattle.circuit.specs.declared.Gate.{Gate}
+use Rattle.circuit.specs.Circuits.{byKind, gateBound, gateWire, gateBit, wrongGate, run, wrongGates, boundsOf, overGates, badCounts, gateRows, placeOf, planRows, planAnswer, evaluateRows, wiresOf, evaluateWires, evaluateBounds, bitsOf}
+use Rattle.circuit.specs.Core.{gate}
+use Rattle.vouched.specs.Demand3.{wireAt, Premises, Vouched, demand-3}
+
+abbrev p : Params
+p = params 2 64 2 1 1
+
+abbrev s : List ℤ
+s = pair (pos 1) (pos 1)
+
+-- row 0 made from the masks and errors, and the masks
+abbrev W : List ℤ
+W = − 35 ∷ pos 164 ∷ pos 57 ∷ pos 63 ∷ four (pos 100) (− 100) (pos 7) (pos 0)
+
+-- wire 2 is wire 0 AND wire 1, wire 3 is NOT wire 2, wire 4 is wire 0 XOR wire 3
+abbrev gates : List Gate
+gates = gate 1 0 1 ∷ gate 2 2 0 ∷ gate 0 0 3 ∷ []
+
+-- the inputs are encryptions of 1 with masks 3 and -20, errors 1 and -1; the rest of each buffer may hold anything
+abbrev wires : List ℤ
+wires = pos 30 ∷ pos 3 ∷ − 13 ∷ − 20 ∷ pos 9 ∷ pos 9 ∷ pos 9 ∷ pos 9 ∷ pos 9 ∷ pos 9 ∷ []
+
+abbrev Bs : List ℕ
+Bs = 1 ∷ 1 ∷ 7 ∷ 7 ∷ 7 ∷ []
+
+abbrev scratch : List ℤ
+scratch = four (pos 9) (pos 9) (pos 9) (pos 9)
+
+abbrev bits : List ℕ
+bits = 1 ∷ 1 ∷ []
+
+-- ---- the premises
+
+W-made : MadeFor 2 64 1 s W
+unfolding all isResidue exceeds switchingKey rowZeroEntry maskColumn tabulate cut column centred rest inner
+W-made =
+    record {
+      masks = four (pos 100) (− 100) (pos 7) (pos 0);
+      masks-long = refl;
+      masks-residues = refl;
+      f = four (pos 1) (pos 0) (pos 0) (− 1);
+      f-long = refl;
+      f-small = errors-within 1 (four (pos 1) (pos 0) (pos 0) (− 1)) refl;
+      made = refl;
+    }
+
+quiet : (i : ℕ) → i < 2 → noise 64 s (wireAt 2 wires i) (getD bits i 0) ≤ getD Bs i 0
+unfolding noise centred rest inner
+quiet zero h = le-refl 1
+quiet (suc zero) h = le-refl 1
+quiet (suc (suc i)) h = absurd (omega arith)
+
+pub premises : Premises p 2 wires Bs W s bits
+unfolding all keyCheckRows firstOf badParams inRange differs badKey isKey eqZ sizes
+premises =
+    record {
+      key = refl;
+      built = made→built 2 64 s (omega arith) (omega arith) refl refl 1 W W-made;
+      bits-long = refl;
+      bits-small = all-each (λ b. leb b 1) bits (λ b. leb-true b 1) refl;
+      quiet = quiet;
+    }
+
+-- ---- evaluation accepts
+
+pub done : firstOf (evaluateRows p 2 gates wires Bs W (length scratch)) ≡ 0
+unfolding firstOf someTrue all badParams inRange badCounts differs outside isResidue fits overBudget byKind gateBound XOR-bound AND-bound NOT-bound wrongGate run wrongGates boundsOf overGates gateRows evaluateRows
+done = refl
+
+-- what it leaves
+pub wires-left : evaluateWires p 2 gates wires Bs W scratch
+    ≡ pos 30 ∷ pos 3 ∷ − 13 ∷ − 20 ∷ pos 19 ∷ pos 11 ∷ − 13 ∷ pos 11 ∷ pos 17 ∷ pos 14 ∷ []
+unfolding byKind gateWire run wiresOf evaluateWires cut flatten zipWith grid flatMap inner round centred rest XOR NOT AND switch switchEntry keyRows tensor tensorEntry
+wires-left = doneOr-done _ wires done
+
+pub bounds-left : evaluateBounds p 2 gates wires Bs W scratch ≡ 1 ∷ 1 ∷ 9 ∷ 9 ∷ 10 ∷ []
+unfolding byKind gateBound XOR-bound AND-bound NOT-bound run boundsOf evaluateBounds
+bounds-left = doneOr-done _ Bs done
+
+pub bits-made : bitsOf gates bits ≡ 1 ∷ 1 ∷ 1 ∷ 0 ∷ 1 ∷ []
+unfolding bitsOf run gateBit byKind
+bits-made = refl
+
+-- so the AND is vouched for: (19,11) has a true noise of at most 9 for the bit 1, and decrypts to it
+pub and-vouched : Vouched p s (pair (pos 19) (pos 11)) 1 9
+and-vouched =
+    rw (wires-left, bits-made, bounds-left) at (demand-3 p 2 gates wires Bs W scratch s bits premises done 2 (omega arith))
+
+-- ---- nor is refusal empty: on sheet 0 an AND of bounds 1 and 1 would have the bound 9, so a circuit is refused at the gate that is one
+
+pub ten-given : planAnswer (sheet 0) 2 (gate 0 0 1 ∷ gate 1 0 1 ∷ []) (1 ∷ 1 ∷ 7 ∷ 7 ∷ []) ≡ refused 10 1
+unfolding firstOf firstTrue someTrue all badParams inRange sheet sheets sheetTable badCounts differs fits overBudget byKind gateBound XOR-bound AND-bound wrongGate run wrongGates boundsOf overGates gateRows placeOf planRows planAnswer
+ten-given = refl

@@ -1,0 +1,1 @@
+// What the engine vouches for: theorems alone, in specs/.
