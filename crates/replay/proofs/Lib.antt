@@ -1,0 +1,2 @@
+-- Laws that several proofs of the crate cite.
+pub mod Widths

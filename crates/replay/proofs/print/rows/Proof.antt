@@ -1,0 +1,89 @@
+-- `print::rows` reads within the four rows of sixteen, and ends. The invariants: the row is one of the four, the column one of the
+-- sixteen, and the text keeps its length.
+use Prim.Native.Nat.{_≤_, _<_, _-_}
+use mathlib.Core.Path.{_≡_}
+use native.Mathlib.Omega.{arith}
+use lib.ListN.{length}
+use Rattle.replay.proofs.print.rows.Statement.{statement}
+use Rattle.replay.proofs.print.rows.Tie as tie
+
+abbrev Inv-loop2 : tie.InvT-loop2
+Inv-loop2 text₀ at key to₀ i j₀ text to j = (i < 4) × (j ≤ 16) × (length text ≡ length text₀)
+
+abbrev μ-loop2 : tie.MeasureT-loop2
+μ-loop2 text₀ at key to₀ i j₀ text to j = 16 - j
+
+abbrev Inv-loop : tie.InvT-loop
+Inv-loop text₀ at key to₀ i₀ text to i = (i ≤ 4) × (length text ≡ length text₀)
+
+abbrev μ-loop : tie.MeasureT-loop
+μ-loop text₀ at key to₀ i₀ text to i = 4 - i
+
+loop-holds : tie.Need-loop-holds Inv-loop2 μ-loop2 Inv-loop μ-loop
+loop-holds c = omega arith
+
+loop2-holds : tie.Need-loop2-holds Inv-loop2 μ-loop2 Inv-loop μ-loop
+loop2-holds c = omega arith
+
+mul-put : tie.Need-mul-put Inv-loop2 μ-loop2 Inv-loop μ-loop
+mul-put c = omega arith
+
+mul-put-2 : tie.Need-mul-put-2 Inv-loop2 μ-loop2 Inv-loop μ-loop
+mul-put-2 c = omega arith
+
+index-1-put : tie.Need-index-1-put Inv-loop2 μ-loop2 Inv-loop μ-loop
+index-1-put c = omega arith
+
+index-2-put : tie.Need-index-2-put Inv-loop2 μ-loop2 Inv-loop μ-loop
+index-2-put c = omega arith
+
+put-requires : tie.Need-put-requires Inv-loop2 μ-loop2 Inv-loop μ-loop
+put-requires c κs = tt
+
+add-j : tie.Need-add-j Inv-loop2 μ-loop2 Inv-loop μ-loop
+add-j c = omega arith
+
+loop2-less : tie.Need-loop2-less Inv-loop2 μ-loop2 Inv-loop μ-loop
+loop2-less c = omega arith
+
+loop2-again : tie.Need-loop2-again Inv-loop2 μ-loop2 Inv-loop μ-loop
+loop2-again c = omega arith
+
+add-i : tie.Need-add-i Inv-loop2 μ-loop2 Inv-loop μ-loop
+add-i c = omega arith
+
+loop-less : tie.Need-loop-less Inv-loop2 μ-loop2 Inv-loop μ-loop
+loop-less c = omega arith
+
+loop-again : tie.Need-loop-again Inv-loop2 μ-loop2 Inv-loop μ-loop
+loop-again c = omega arith
+
+same-length : tie.Need-same-length Inv-loop2 μ-loop2 Inv-loop μ-loop
+same-length c = omega arith
+
+returns : tie.Need-returns Inv-loop2 μ-loop2 Inv-loop μ-loop
+returns c = omega arith
+
+pub rows-spec : {M : Type 1} → statement M
+rows-spec =
+    tie.close
+    (tie.spec
+    Inv-loop2
+    μ-loop2
+    Inv-loop
+    μ-loop
+    loop-holds
+    loop2-holds
+    mul-put
+    mul-put-2
+    index-1-put
+    index-2-put
+    put-requires
+    add-j
+    loop2-less
+    loop2-again
+    add-i
+    loop-less
+    loop-again
+    same-length
+    returns)

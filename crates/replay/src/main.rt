@@ -1,0 +1,62 @@
+// Reads calls from standard input and prints what each answers and leaves in its buffers: one line
+// a call, in the order of the calls. docs/REPLAY.md has the format.
+mod ciphers;
+mod gate;
+mod keys;
+mod lent;
+mod print;
+mod read;
+mod sets;
+mod width;
+
+use read::LONG;
+use read::STORE;
+
+// The most calls of a run. A proved loop has to end, and nothing says that the input does.
+const CALLS: usize = 4294967296;
+
+// Does the call and puts its answer into the text. The numbers of calls are 1 to 11 (`read`).
+fn answer(call: &[i64], text: &mut [u8], at: usize, long: &mut [i64]) -> usize {
+    match lent::word(call, 0) {
+        1 => sets::make(call, text, at),
+        2 => sets::sheet(call, text, at),
+        3 => keys::check_key(call, text, at),
+        4 => keys::make_switching_key(call, text, at, long),
+        5 => keys::check_bench_key(call, text, at),
+        6 => keys::make_bench_key(call, text, at),
+        7 => ciphers::encrypt(call, text, at),
+        8 => ciphers::decrypt(call, text, at),
+        9 => gate::xor(call, text, at),
+        10 => gate::not(call, text, at),
+        _ => gate::and(call, text, at),
+    }
+}
+
+// One call after another, until the input ends or a call cannot be read. Answers how much of the
+// text is filled.
+fn calls(block: &mut [u8], store: &mut [i64], text: &mut [u8], long: &mut [i64]) -> usize {
+    let mut cursor = stream::start();
+    let mut at = 0;
+    for _ in 0..CALLS {
+        let last = read::call(block, cursor, store);
+        let len = last.at;
+        if !last.good {
+            return at;
+        }
+        cursor = last.cursor;
+        at = answer(&store[0..len], text, at, long);
+        at = stream::end_line(text, at);
+    }
+    at
+}
+
+fn main() {
+    let mut block = [0u8; 65536];
+    let mut text = [0u8; 65536];
+    let mut store = [0i64; STORE];
+    let mut long = [0i64; LONG];
+    let at = calls(&mut block, &mut store, &mut text, &mut long);
+    let to = stream::word(&mut text, at, &[b'e', b'n', b'd']);
+    let end = stream::end_line(&mut text, to);
+    stream::flush(&mut text, end);
+}

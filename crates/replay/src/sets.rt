@@ -1,0 +1,15 @@
+// The calls on parameter sets. Each takes the call's numbers, and puts its answer into the text.
+use crate::lent;
+use crate::print;
+use refusal::Params;
+
+// Call 1: n, q, L, E and F.
+pub fn make(call: &[i64], text: &mut [u8], at: usize) -> usize {
+    let p = lent::params(call);
+    print::made(text, at, Params::make(p.n, p.q, p.l, p.e, p.f))
+}
+
+// Call 2: a sheet number.
+pub fn sheet(call: &[i64], text: &mut [u8], at: usize) -> usize {
+    print::made(text, at, Params::sheet(lent::word(call, 1)))
+}

@@ -1,0 +1,136 @@
+"""Holds the program `replay` against this one, call by call. docs/REPLAY.md has the format.
+
+    python3 oracle/replay.py --speak < calls > answers
+    python3 oracle/replay.py --make --seed N --count N > calls
+    python3 oracle/replay.py --compare --seed N --count N [--program FILE]
+    python3 oracle/replay.py --write
+    python3 oracle/replay.py --check
+
+--speak answers calls, --make writes a random batch, --compare makes a batch and has
+both programs answer it. --write writes the batch of the gate, with this program's
+answers, beside the source of `replay`, and --check fails where the files are others.
+The exit status is 1 on a difference, and where a batch shows too little.
+"""
+
+import argparse
+import random
+import subprocess
+import sys
+import time
+from pathlib import Path
+
+import replay_gate
+from replay_batch import FULL, make_batch, unreadable_texts
+from replay_format import END, answer_line, spoken, written
+from replay_tally import Tally
+
+PROGRAM = Path(__file__).resolve().parent.parent / "target" / "bin" / "replay"
+PART = 500        # calls that the program is given at a time
+PROGRESS = 5000   # calls between two lines of progress
+
+
+def answers_of(program, text):
+    """The lines that the program answers to a text of calls."""
+    run = subprocess.run([program], input=text.encode(), stdout=subprocess.PIPE, check=True)
+    return run.stdout.decode().splitlines(keepends=True)
+
+
+def misread(program):
+    """The first text that ends with no call to which the program answers otherwise."""
+    for text in unreadable_texts():
+        if answers_of(program, text) != list(spoken(text)):
+            return text
+    return None
+
+
+def differing(program, calls):
+    """The first call of these to which the program answers otherwise, with both answers."""
+    said = answers_of(program, "".join(written(call) for call in calls))
+    expected = [answer_line(call) for call in calls] + [END]
+    for i, line in enumerate(expected):
+        other = said[i] if i < len(said) else ""
+        if other != line:
+            return i, line, other
+    return None if len(said) == len(expected) else (len(calls), "", said[len(expected)])
+
+
+def parts(calls, size):
+    """Calls in parts of at most `size`."""
+    part = []
+    for call in calls:
+        part.append(call)
+        if len(part) == size:
+            yield part
+            part = []
+    if part:
+        yield part
+
+
+def cut(line):
+    """A line, short enough to be shown."""
+    return line if len(line) <= 2000 else line[:2000] + f".. ({len(line)} bytes)\n"
+
+
+def show_difference(before, part, found):
+    """Prints the first call that differs, and both answers to it."""
+    at, expected, other = found
+    print(f"call {before + at} differs")
+    if at < len(part):
+        print("call:     " + cut(written(part[at])), end="")
+    print("expected: " + cut(expected) + "program:  " + cut(other), end="")
+
+
+def compare(seed, count, program):
+    """Has both programs answer a batch. 1 on a difference or where too little was seen."""
+    started = time.time()
+    text = misread(program)
+    if text is not None:
+        print("a text that ends with no call is answered otherwise: " + cut(text))
+        return 1
+    tally = Tally()
+    for part in parts(make_batch(random.Random(seed), count, FULL), PART):
+        found = differing(program, part)
+        if found:
+            show_difference(tally.count, part, found)
+            return 1
+        for call in part:
+            tally.take(call)
+        if tally.count % PROGRESS == 0:
+            print(f"{tally.count} calls, {time.time() - started:.0f} s", flush=True)
+    print(f"seed {seed}: {tally.count} calls and {len(unreadable_texts())} texts that end with no "
+          "call, every answer the same")
+    tally.show()
+    for line in tally.lacks():
+        print(line)
+    return 1 if tally.lacks() else 0
+
+
+def arguments():
+    """What was asked for on the command line."""
+    parser = argparse.ArgumentParser(description="Calls for the program replay, and answers.")
+    what = parser.add_mutually_exclusive_group(required=True)
+    for name in ("speak", "make", "compare", "write", "check"):
+        what.add_argument("--" + name, action="store_true")
+    parser.add_argument("--seed", type=int, default=1)
+    parser.add_argument("--count", type=int, default=1000)
+    parser.add_argument("--program", default=str(PROGRAM))
+    return parser.parse_args()
+
+
+def main():
+    """Does what was asked for."""
+    asked = arguments()
+    if asked.speak:
+        sys.stdout.writelines(spoken(sys.stdin.read()))
+        return 0
+    if asked.make:
+        batch = make_batch(random.Random(asked.seed), asked.count, FULL)
+        sys.stdout.writelines(written(call) for call in batch)
+        return 0
+    if asked.compare:
+        return compare(asked.seed, asked.count, asked.program)
+    return replay_gate.write() if asked.write else replay_gate.check()
+
+
+if __name__ == "__main__":
+    sys.exit(main())

@@ -1,0 +1,111 @@
+"""The figures of the paper's section 'Sheet 0 and edge figures' as calls, each with its answer.
+
+The answers stand here as the paper has them. The noises are no calls. AND on
+sheet 0 is always over budget, so tensor and switch are shown on n = 2, q = 16 with
+L = 1 and F = 0, where bounds of 0 fit; the tensor shows through a key that picks
+its entries out, since q times 1 at column j and 0 elsewhere gives tensor entry j.
+"""
+
+from engine import HOUSE_SHEETS, Params
+from replay_format import (AND, DECRYPT, ENCRYPT, MAKE, MAKE_SWITCHING_KEY, NOT, SHEET, XOR,
+                           answered)
+
+SHEET_0, SHEET_1 = HOUSE_SHEETS[0], HOUSE_SHEETS[1]
+QUIET = Params(2, 16, 1, 0, 0)
+
+MASKS = [100, -100, 7, 0]
+ERRORS = [1, 0, 0, -1]
+SWITCHING_KEY = [-83, 116, 9, 15] + MASKS
+
+
+def encryption(key, bit, mask, error, result):
+    """An encryption on sheet 0, and the decryption of its result."""
+    return [
+        ((ENCRYPT, [SHEET_0, key, bit, [mask], error, [0, 0]]), [0, 0, 1] + result),
+        ((DECRYPT, [SHEET_0, key, result]), [0, 0, bit]),
+    ]
+
+
+def quiet_and(left, right, key, result):
+    """An AND of two ciphertexts with bounds of 0, with something in the scratch."""
+    return (AND, [QUIET, left, 0, right, 0, key, [1, 2, 3, 4], [0, 0]]), [0] * 7 + result
+
+
+def stated(number, bounds, answer, result=(0, 0)):
+    """A gate of zeros on sheet 0 with these bounds. The paper does not say what it writes: the
+    result is that of the definitions."""
+    zero = [0, 0]
+    fields = [x for bound in bounds for x in (zero, bound)]
+    lent = [[0] * 8, [0] * 4, zero] if number == AND else [zero]
+    scratch = [0] * 4 if number == AND else []
+    return (number, [SHEET_0] + fields + lent), answer + scratch + list(result)
+
+
+def bounded_and(bound, answer):
+    """An AND of zeros on sheet 1 with twice this bound."""
+    zero = [0] * 4
+    fields = [SHEET_1, zero, bound, zero, bound, [0] * 64, [0] * 16, zero]
+    return (AND, fields), answer + [0] * 20
+
+
+def proved_figures():
+    """The figures marked P."""
+    both = [6, 3]
+    return (
+        encryption([1, 1], 1, 3, 1, both)
+        + encryption([1, 1], 0, -8, 0, [-8, -8])
+        + encryption([1, 1], 1, -8, -1, [-1, -8])
+        + encryption([1, -1], 1, 5, 0, [-3, 5])
+        + [
+            ((XOR, [SHEET_0, both, 1, both, 1, [0, 0]]), [0, 0, 2, -4, 6]),
+            ((DECRYPT, [SHEET_0, [1, 1], [-4, 6]]), [0, 0, 0]),
+            ((NOT, [SHEET_0, both, 1, [0, 0]]), [0, 0, 1, -2, 3]),
+            ((DECRYPT, [SHEET_0, [1, 1], [-2, 3]]), [0, 0, 0]),
+            quiet_and(both, both, [16, 0, 0, 0, 0, 16, 0, 0], [5, 2]),
+            quiet_and(both, both, [0, 0, 16, 0, 0, 0, 0, 16], [2, 1]),
+            ((MAKE_SWITCHING_KEY, [SHEET_0, [1, 1], MASKS, ERRORS, [0] * 8]),
+             [0, 0] + SWITCHING_KEY),
+            quiet_and(both, both, SWITCHING_KEY, [7, 4]),
+            ((DECRYPT, [SHEET_0, [1, 1], [7, 4]]), [0, 0, 1]),
+            quiet_and([4, 4], [4, 4], SWITCHING_KEY, [7, 1]),
+            bounded_and(2030, [0, 0, 16383]),
+            bounded_and(2031, [10, 0, 0]),
+        ]
+    )
+
+
+def slips():
+    """What else the paper decides: -4.5 rounds to -4, and a size of just q/4 decrypts to 0."""
+    return [quiet_and([-6, 0], [6, 0], [16, 0, 0, 0, 0, 16, 0, 0], [-4, 0])] + [
+        ((DECRYPT, [SHEET_0, [1, 1], [c, 0]]), [0, 0, bit])
+        for c, bit in ((4, 0), (-4, 0), (5, 1), (-5, 1))
+    ]
+
+
+def edge_figures():
+    """The figures that are not marked P, and the six sheets."""
+    return [
+        ((MAKE, [Params(2, 16, 2, 3, 1)]), [0, 0, 2, 16, 2, 3, 1]),
+        ((MAKE, [Params(2, 16, 2, 4, 1)]), [1, 0, 0, 0, 0, 0, 0]),
+        stated(NOT, [3], [0, 0, 3], [-8, 0]),
+        stated(NOT, [4], [8, 0, 0]),
+        stated(XOR, [3, 0], [0, 0, 3]),
+        stated(XOR, [4, 0], [8, 0, 0]),
+        stated(XOR, [0, 4], [8, 0, 0]),
+        stated(XOR, [1, 2], [0, 0, 3]),
+        stated(XOR, [1, 3], [10, 0, 0]),
+        stated(AND, [1, 1], [10, 0, 0]),
+        stated(AND, [4, 0], [8, 0, 0]),
+    ] + [
+        ((SHEET, [k]), [0, 0, *p]) for k, p in enumerate(HOUSE_SHEETS)
+    ] + [((SHEET, [6]), [1] + [0] * 6)]
+
+
+def figures():
+    """Every figure as a call and the paper's answer."""
+    return proved_figures() + edge_figures() + slips()
+
+
+def wrong_figures():
+    """The figures to which this program answers otherwise: none."""
+    return [call for call, answer in figures() if answered(call) != answer]
