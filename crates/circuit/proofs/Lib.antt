@@ -1,2 +1,5 @@
+pub mod Evaluated
 pub mod Planned
 pub mod Settling
+pub mod Stretch
+pub mod Worked

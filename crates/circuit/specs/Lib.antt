@@ -2,6 +2,7 @@ pub mod Circuits
 pub mod Core
 pub mod Run
 pub mod Records
+pub mod Wires
 pub mod Answers
 pub mod Agree
 pub mod Wording

@@ -6,7 +6,7 @@ use Prim.Native.Nat.{ℕ, zero, suc, _+_, _≤_, _<_}
 use native.Mathlib.Nat.{add-zero, le-of-suc-le-suc, not-suc-le-zero}
 use native.Mathlib.Omega.{arith}
 use lib.ListN.{length, getD, take, length-append}
-use lib.Seq.{take-take, take-length, take-append-seam, getD-take, getD-append-seam}
+use lib.Seq.{take-suc, take-take, take-length, take-append-seam, getD-take, getD-append-seam}
 use Rattle.circuit.specs.declared.Gate.{Gate}
 use Rattle.circuit.specs.Circuits.{run}
 
@@ -45,3 +45,15 @@ module _ {A : Type 0} (f : Gate → List A → A) where
       let longer : List A = ws ++ (f g ws ∷ []) in
       let next : length ws + suc i ≡ length longer + i = omega (arith, one-more ws (f g ws)) in
       rw next (run-gate gs longer i z d (le-of-suc-le-suc h))
+
+  -- a run in two stages
+  pub run-append : (first second : List Gate) (ws : List A) → run f (first ++ second) ws ≡ run f second (run f first ws)
+  unfolding run
+  run-append [] second ws = refl
+  run-append (g ∷ first) second ws = run-append first second (ws ++ (f g ws ∷ []))
+
+  -- one gate more
+  pub run-suc : (gs : List Gate) (ws : List A) (g : ℕ) (z : Gate) → g < length gs
+      → run f (take (suc g) gs) ws ≡ run f (take g gs) ws ++ (f (getD gs g z) (run f (take g gs) ws) ∷ [])
+  unfolding run
+  run-suc gs ws g z h = rw (take-suc gs g z, run-append)

@@ -1,5 +1,6 @@
 // Planning and evaluating a circuit of XOR, AND and NOT gates.
 pub mod checks;
+pub mod evaluate;
 pub mod plan;
 
 // A gate record: kind 0 XOR, 1 AND, 2 NOT, then the wires on its left and its right. Any numbers can be lent.

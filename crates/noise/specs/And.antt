@@ -1,42 +1,26 @@
 -- The noise of AND, for any key row s and any switching key built for it: the whole number of the tensor under the first floor, and that
--- of the switch under the second. And its result is a ciphertext again.
+-- of the switch under the second.
 use mathlib.Core.Path.{_≡_, sym, ap, ap₂, _∙_}
 use mathlib.Core.Bool.{true}
 use mathlib.Core.List.{List, [], _∷_, map}
 use Prim.Native.Nat.{ℕ, _*_, _/_, _≤_, _<_}
 use native.Mathlib.Nat.{le-of-eq}
 use native.Mathlib.Omega.{arith}
-use lib.ListN.{length, getD, length-map}
+use lib.ListN.{length, getD}
 use lib.IntN.{ℤ, pos, _+ℤ_, _-ℤ_, _*ℤ_, natAbs}
 use Rattle.whole.specs.Laws.{*ℤ-assoc}
 use Rattle.whole.specs.Ring.{by-ring, quote}
 use Rattle.whole.specs.Size.{size-add}
-use Rattle.whole.specs.Round.{round}
 use Rattle.whole.specs.Centred.{centred}
-use Rattle.whole.specs.Lists.{grid, getD-grid-place, each-map, each-always, all, each-all, length-cut}
+use Rattle.whole.specs.Lists.{grid, getD-grid-place, all}
 use Rattle.whole.specs.Inner.{inner, inner-comm, sizes, column}
 use Rattle.scheme.specs.Arithmetic.{half, isResidue, noise, tensor, keyRows, switchEntry, switch, AND, AND-bound}
-use Rattle.scheme.specs.Wording.{centred-residue, length-tensor}
+use Rattle.scheme.specs.Wording.{length-tensor}
 use Rattle.noise.specs.Noise.{Written, written, noise-le, size-fact}
 use Rattle.noise.specs.Reduced.{residues-size}
 use Rattle.noise.specs.Tensor.{halves, TensorNoise, tensor-size, tensor-noise, tensor-bound}
 use Rattle.noise.specs.Switch.{SwitchNoise, switch-noise}
 use Rattle.noise.specs.Built.{BuiltFor}
-
--- ---- the result is a ciphertext
-
--- it has n entries
-pub length-AND : (n q : ℕ) (W c d : List ℤ) → length (AND n q W c d) ≡ n
-unfolding AND switch keyRows
-length-AND n q W c d = length-map (keyRows n W) (switchEntry q (tensor q c d)) ∙ length-cut (n * n) n W
-
--- and each is a residue
-pub and-residues : (n q : ℕ) (W c d : List ℤ) → 0 < q → q ≡ 2 * (q / 2) → all (isResidue q) (AND n q W c d) ≡ true
-unfolding AND switch switchEntry
-and-residues n q W c d h even =
-    each-all (each-map (switchEntry q (tensor q c d)) (each-always (λ row. centred-residue q (round (inner (tensor q c d) row) q) h even) (keyRows n W)))
-
--- ---- its noise
 
 -- the columns of a key that is built for s stand for s⊗s
 stands-for : (n q F : ℕ) (s W : List ℤ) → length s ≡ n → BuiltFor n q F s W → (j : ℕ) → j < n * n

@@ -1,32 +1,27 @@
 -- What encryption, XOR, NOT and decryption do to the noise, for any key row s; only NOT and encryption use that it begins with 1.
--- What they give is again a list of residues, of the right length.
+-- What encryption gives is again a list of residues, of the right length; that of XOR, NOT and AND is in scheme's `Wording`.
 use mathlib.Core.Path.{_≡_, refl, sym, ap, ap₂, _∙_}
 use mathlib.Core.Bool.{true}
-use mathlib.Core.List.{List, [], _∷_, map, zipWith}
+use mathlib.Core.List.{List, [], _∷_, zipWith}
 use Prim.Native.Nat.{ℕ, zero, suc, _+_, _*_, _/_, _%_, _-_, _≤_, _<_}
 use native.Mathlib.Nat.{not-suc-le-zero}
 use native.Mathlib.Omega.{arith}
 use lib.IntN.{ℤ, pos, _+ℤ_, _-ℤ_, _*ℤ_, natAbs}
 use lib.ListN.{length, getD, drop}
 use borrow.Author.Tests.{lt-ltb, le-ltb}
-use Rattle.whole.specs.Tests.{and-right, and-both}
+use Rattle.whole.specs.Tests.{and-both}
 use Rattle.whole.specs.Laws.{one-*ℤ}
 use Rattle.whole.specs.Ring.{by-ring, from-eq, quote}
 use Rattle.whole.specs.Split.{zarith, sub-is}
 use Rattle.whole.specs.Size.{size-add}
 use Rattle.whole.specs.Centred.{centred, Congruent, congruent-same, congruent-step, centred-congruent}
-use Rattle.whole.specs.Lists.{all, all-map, length-zipWith, map-zipWith}
+use Rattle.whole.specs.Lists.{all}
 use Rattle.whole.specs.Inner.{inner, inner-cons, inner-centred, inner-zip-add}
 use Rattle.scheme.specs.Arithmetic.{half, isResidue, encrypt, decrypt, noise, XOR, XOR-bound, NOT, NOT-bound}
-use Rattle.scheme.specs.Wording.{centred-residue}
+use Rattle.scheme.specs.Wording.{centred-residue, XOR-sum}
 use Rattle.noise.specs.Noise.{Written, written, noise-reduced, noise-parity, noise-both}
 
 -- ---- XOR
-
--- XOR is the sum of the two ciphertexts, reduced entry by entry
-XOR-sum : (q : ℕ) (c d : List ℤ) → map (centred q) (zipWith _+ℤ_ c d) ≡ XOR q c d
-unfolding XOR
-XOR-sum q c d = map-zipWith (centred q) _+ℤ_ c d
 
 -- its noise for b1 xor b2 is at most the sum of the two bounds
 pub xor-noise : (q : ℕ) (s c d : List ℤ) (b1 b2 : ℕ) {B1 B2 : ℕ} → 0 < q → q ≡ 2 * (q / 2) → length c ≡ length d
@@ -48,15 +43,6 @@ xor-noise q s c d b1 b2 h even same n1 n2 =
 
     sum : (v : Written q s c b1) (w : Written q s d b2) → inner s (zipWith _+ℤ_ c d) ≡ (v .k +ℤ w .k) *ℤ pos q +ℤ pos (b1 + b2) *ℤ half q +ℤ (v .e +ℤ w .e)
     sum v w = inner-zip-add s c d same ∙ ap₂ _+ℤ_ (v .sum) (w .sum) ∙ sorted (v .k) (w .k) (pos q) (pos b1) (pos b2) (half q) (v .e) (w .e)
-
--- it is as long as the two
-pub length-XOR : (q : ℕ) (c d : List ℤ) → length c ≡ length d → length (XOR q c d) ≡ length c
-unfolding XOR
-length-XOR q c d same = length-zipWith (λ x y. centred q (x +ℤ y)) c d same
-
--- its entries are residues, whatever those of the two are
-pub xor-residues : (q : ℕ) (c d : List ℤ) → 0 < q → q ≡ 2 * (q / 2) → all (isResidue q) (XOR q c d) ≡ true
-xor-residues q c d h even = rw XOR-sum at (all-map (isResidue q) (centred q) (zipWith _+ℤ_ c d) (λ x. centred-residue q x h even))
 
 -- ---- entry 0 of a ciphertext
 
@@ -88,18 +74,6 @@ not-noise q s (x ∷ c) b h even one some bit n =
 
     sum : (w : Written q s (x ∷ c) b) → x +ℤ half q +ℤ inner (drop 1 s) c ≡ w .k *ℤ pos q +ℤ pos (b + 1) *ℤ half q +ℤ w .e
     sum w = sorted x (inner (drop 1 s) c) (w .k *ℤ pos q) (pos b) (half q) (w .e) (sym (key-inner s c x one) ∙ w .sum)
-
--- it is as long as the ciphertext
-pub length-NOT : (q : ℕ) (c : List ℤ) → length (NOT q c) ≡ length c
-unfolding NOT
-length-NOT q [] = refl
-length-NOT q (x ∷ c) = refl
-
--- its entries are residues where those of the ciphertext are
-pub not-residues : (q : ℕ) (c : List ℤ) → 0 < q → q ≡ 2 * (q / 2) → all (isResidue q) c ≡ true → all (isResidue q) (NOT q c) ≡ true
-unfolding NOT all
-not-residues q [] h even r = r
-not-residues q (x ∷ c) h even r = and-both (centred-residue q (x +ℤ half q) h even) (and-right (isResidue q x) (all (isResidue q) c) r)
 
 -- ---- encryption
 

@@ -10,7 +10,7 @@ use native.Mathlib.Nat.{le-of-eq, le-of-lt, not-suc-le-zero, le-of-suc-le-suc, z
 use native.Mathlib.Omega.{arith}
 use lib.Dec.{ltb}
 use Rattle.whole.specs.Tests.{and-left, and-right, clash}
-use Rattle.whole.specs.Lists.{all}
+use Rattle.whole.specs.Lists.{all, Each, nil, cons}
 use lib.ListN.{length, getD}
 use borrow.Author.Tests.{ltb-true}
 
@@ -109,6 +109,25 @@ first-clear (r ∷ rows) k up e = by-test (r .applies) refl e (first-clear rows 
     by-test true f z later = absurd (omega (arith, ltb-true k (r .number) number-up))
     by-test false f z later = (f, later z)
 
+-- one row after the other
+pub first-row : (k : ℕ) (t : Bool) (rows : List Row) → firstOf (row k t ∷ rows) ≡ cond t k (firstOf rows)
+unfolding firstOf
+first-row k t rows = refl
+
+pub first-last : (k : ℕ) (t : Bool) → firstOf (row k t ∷ []) ≡ cond t k 0
+unfolding firstOf
+first-last k t = refl
+
+-- the number is below m where those of the rows are
+pub first-under : {m : ℕ} {rows : List Row} → 0 < m → Each (λ r. r .number < m) rows → firstOf rows < m
+unfolding firstOf
+first-under h nil = h
+first-under {m} h (cons {x = r} {xs = rows} b e) = by-test (r .applies) (first-under h e)
+  where
+    by-test : (t : Bool) → firstOf rows < m → cond t (r .number) (firstOf rows) < m
+    by-test true later = b
+    by-test false later = later
+
 -- rows tested in two stages: where one of the front rows applies the number is theirs, and where none does it is that of the rest
 pub first-front : (front rest : List Row) → firstOf front ≢ 0 → firstOf (front ++ rest) ≡ firstOf front
 unfolding firstOf
@@ -197,6 +216,8 @@ none-first (true ∷ ts) h = absurd (not-suc-le-zero h)
 none-first (false ∷ ts) h = none-first ts (le-of-suc-le-suc h)
 
 -- where none is, each is false
+
+-- where none is true the test at i is not
 pub none-true : (ts : List Bool) (i : ℕ) → someTrue ts ≡ false → getD ts i false ≡ false
 unfolding someTrue
 none-true [] i e = refl

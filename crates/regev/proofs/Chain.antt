@@ -1,7 +1,7 @@
 -- What the proofs of several calls share: what a `_number` function takes from its first two tests, what a call leaves in its answer and in a
 -- buffer where it refuses and where it does not, and the sum that entry 0 of a ciphertext and row 0 of a switching key are the residues of.
-use mathlib.Core.Path.{_≡_, sym, ap, _∙_, ap₂}
-use mathlib.Core.Bool.{Bool, false, not}
+use mathlib.Core.Path.{_≡_, sym, _∙_, ap₂}
+use mathlib.Core.Bool.{false}
 use Prim.Native.Nat.{ℕ, _≤_}
 use native.Mathlib.Omega.{arith}
 use lib.IntN.{ℤ, _+ℤ_, _-ℤ_, natAbs}
@@ -10,32 +10,20 @@ use mir.Val.{SFits}
 use Rattle.whole.specs.Size.{size-add, size-sub}
 use Rattle.whole.specs.Machine.{fits64}
 use Rattle.refusal.specs.declared.Params.{Params}
-use Rattle.refusal.specs.Parameters.{inRange, InRange, in-range}
-use Rattle.scheme.specs.Calls.{badParams, differs, bounded}
+use Rattle.refusal.specs.Parameters.{InRange}
+use Rattle.scheme.specs.Calls.{differs, bounded}
 use Rattle.scheme.specs.Passed.{length-is}
-use Rattle.modular.specs.Loans.{Modulus}
 use mathlib.Core.Logic.{_≢_}
-use borrow.Author.Tests.{not-false}
 use Rattle.refusal.specs.First.{doneOr, doneOr-done, doneOr-refused}
 use Rattle.scheme.specs.declared.Bounded.{Bounded}
+pub use Rattle.scheme.specs.Passed.{params-tested, answered-range}
+pub use Rattle.regev.specs.Moduli.{params-modulus}
 
--- ---- parameters and lengths
-
--- the code's test of what `in_range` answered is the first row's
-pub params-tested : (p : Params) {t b : Bool} → t ≡ inRange p → not t ≡ b → badParams p ≡ b
-unfolding badParams
-params-tested p e f = ap not (sym e) ∙ f
-
-pub params-modulus : {p : Params} → InRange p → Modulus (p .q)
-params-modulus r = record { positive = omega (arith, r .q-low); high = r .q-high; even = r .q-even }
+-- ---- lengths
 
 -- a length that is n is short enough for `sum_of_sizes`
 pub short : {p : Params} {n : ℕ} → InRange p → differs n (p .n) ≡ false → n ≤ 1024
 short {p} {n} r d = omega (arith, r .n-high, length-is n (p .n) d)
-
--- t is what `in_range` answered, and refusal 1 was passed over
-pub answered-range : (p : Params) {t : Bool} → t ≡ inRange p → not t ≡ false → InRange p
-answered-range p {t} e h = in-range p (sym e ∙ not-false t h)
 
 -- ---- refused, and done
 

@@ -5,4 +5,4 @@ pub mod cipher;
 pub mod gates;
 pub mod key;
 pub mod switching;
-mod tests;
+pub mod tests;

@@ -19,6 +19,14 @@ pub params-in-range : (p : Params) → badParams p ≡ false → InRange p
 unfolding badParams
 params-in-range p e = in-range p (not-false (inRange p) e)
 
+-- the same by code that has the answer t of `in_range`: its test is the first row's, and where it is passed over the parameters are in range
+pub params-tested : (p : Params) {t b : Bool} → t ≡ inRange p → not t ≡ b → badParams p ≡ b
+unfolding badParams
+params-tested p e f = ap not (sym e) ∙ f
+
+pub answered-range : (p : Params) {t : Bool} → t ≡ inRange p → not t ≡ false → InRange p
+answered-range p e f = params-in-range p (params-tested p e f)
+
 pub length-is : (a b : ℕ) → differs a b ≡ false → a ≡ b
 unfolding differs
 length-is a b e = eqb-true a b (not-false (eqb a b) e)

@@ -1,25 +1,26 @@
 -- Where a definition is not at once the sentence of document 01, a fact that shows that it is: the range of a residue, the
--- places u·n+v of the tensor and i·n²+j of the switching key, and that the number given by each call is the lowest that applies.
+-- places u·n+v of the tensor and i·n²+j of the switching key, that what XOR, NOT and AND make is n residues again, and that the number given by each
+-- call is the lowest that applies.
 use mathlib.Core.Path.{_≡_, refl, sym, ap, _∙_}
 use mathlib.Core.Bool.{Bool, true}
-use mathlib.Core.List.{List, [], _∷_}
+use mathlib.Core.List.{List, [], _∷_, map, zipWith}
 use Prim.Native.Nat.{ℕ, _+_, _*_, _/_, _%_, _-_, _≤_, _<_}
 use native.Mathlib.Nat.{mul-assoc}
 use native.Mathlib.Omega.{arith}
 use lib.IntN.{ℤ, pos, negℤ, _+ℤ_, _-ℤ_, _*ℤ_, natAbs}
 use lib.Signed.{_≤ℤ_, _<ℤ_, leZ, ltZ}
-use lib.ListN.{length, getD, drop, List·getD-append}
+use lib.ListN.{length, getD, drop, List·getD-append, length-map}
 use lib.Seq.{drop-at}
 use lib.Arith.{digits-lt, digits-div, digits-mod}
 use Rattle.whole.specs.Tests.{and-left, and-right, and-both, leZ-true, ltZ-true, le-leZ, lt-ltZ}
 use Rattle.whole.specs.Split.{zarith, mul-is, up-neg, dn-neg, size-is, apart}
 use Rattle.whole.specs.Centred.{Centred, centred, centred-is, centred-id}
 use Rattle.whole.specs.Round.{round}
-use Rattle.whole.specs.Lists.{all, all-map, grid, map-grid, length-grid, getD-grid, getD-map, cut, length-cut, getD-cut-entry, tabulate, length-tabulate, getD-tabulate}
+use Rattle.whole.specs.Lists.{all, all-map, each-all, each-map, each-always, length-zipWith, map-zipWith, grid, map-grid, length-grid, getD-grid, getD-map, cut, length-cut, getD-cut-entry, tabulate, length-tabulate, getD-tabulate}
 use Rattle.whole.specs.Inner.{inner, column}
 use Rattle.refusal.specs.declared.Params.{Params}
 use Rattle.refusal.specs.First.{rising}
-use Rattle.scheme.specs.Arithmetic.{half, isResidue, XOR-bound, NOT-bound, tensorEntry, tensor, keyRows, maskColumn, rowZeroEntry, switchingKey}
+use Rattle.scheme.specs.Arithmetic.{half, isResidue, XOR-bound, NOT-bound, tensorEntry, tensor, keyRows, maskColumn, rowZeroEntry, switchingKey, XOR, NOT, switchEntry, switch, AND}
 use Rattle.scheme.specs.Calls.{keyCheckRows, makeKeyRows, benchRows, encryptRows, decryptRows, xorRows, notRows, andRows}
 
 -- ---- residues
@@ -126,6 +127,45 @@ key-row-zero n q s masks f u v z hu hv =
 pub key-masks : (n q : ℕ) (s masks f : List ℤ) → drop (n * n) (switchingKey n q s masks f) ≡ masks
 unfolding switchingKey
 key-masks n q s masks f = drop-at (tabulate (n * n) (rowZeroEntry n q s masks f)) masks (n * n) (length-tabulate (n * n) (rowZeroEntry n q s masks f))
+
+-- ---- what a gate makes is a ciphertext again: of the right length, and of residues
+
+-- XOR is the sum of the two ciphertexts, reduced entry by entry
+pub XOR-sum : (q : ℕ) (c d : List ℤ) → map (centred q) (zipWith _+ℤ_ c d) ≡ XOR q c d
+unfolding XOR
+XOR-sum q c d = map-zipWith (centred q) _+ℤ_ c d
+
+-- it is as long as the two
+pub length-XOR : (q : ℕ) (c d : List ℤ) → length c ≡ length d → length (XOR q c d) ≡ length c
+unfolding XOR
+length-XOR q c d same = length-zipWith (λ x y. centred q (x +ℤ y)) c d same
+
+-- its entries are residues, whatever those of the two are
+pub xor-residues : (q : ℕ) (c d : List ℤ) → 0 < q → q ≡ 2 * (q / 2) → all (isResidue q) (XOR q c d) ≡ true
+xor-residues q c d h even = rw XOR-sum at (all-map (isResidue q) (centred q) (zipWith _+ℤ_ c d) (λ x. centred-residue q x h even))
+
+-- NOT is as long as the ciphertext
+pub length-NOT : (q : ℕ) (c : List ℤ) → length (NOT q c) ≡ length c
+unfolding NOT
+length-NOT q [] = refl
+length-NOT q (x ∷ c) = refl
+
+-- its entries are residues where those of the ciphertext are
+pub not-residues : (q : ℕ) (c : List ℤ) → 0 < q → q ≡ 2 * (q / 2) → all (isResidue q) c ≡ true → all (isResidue q) (NOT q c) ≡ true
+unfolding NOT all
+not-residues q [] h even r = r
+not-residues q (x ∷ c) h even r = and-both (centred-residue q (x +ℤ half q) h even) (and-right (isResidue q x) (all (isResidue q) c) r)
+
+-- AND has n entries
+pub length-AND : (n q : ℕ) (W c d : List ℤ) → length (AND n q W c d) ≡ n
+unfolding AND switch keyRows
+length-AND n q W c d = length-map (keyRows n W) (switchEntry q (tensor q c d)) ∙ length-cut (n * n) n W
+
+-- and each is a residue
+pub and-residues : (n q : ℕ) (W c d : List ℤ) → 0 < q → q ≡ 2 * (q / 2) → all (isResidue q) (AND n q W c d) ≡ true
+unfolding AND switch switchEntry
+and-residues n q W c d h even =
+    each-all (each-map (switchEntry q (tensor q c d)) (each-always (λ row. centred-residue q (round (inner (tensor q c d) row) q) h even) (keyRows n W)))
 
 -- ---- the lowest number that applies
 

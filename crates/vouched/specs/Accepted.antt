@@ -10,7 +10,7 @@ use lib.ListN.{length, getD, take}
 use lib.Seq.{length-take-le}
 use borrow.Author.Tests.{not-false}
 use Rattle.whole.specs.Tests.{or-left, or-right}
-use Rattle.whole.specs.Lists.{all, all-getD, each-getD, cut, length-cut, each-cut, flatten-cut-take, all-flatten}
+use Rattle.whole.specs.Lists.{all, all-getD, each-getD, cut, length-cut, each-cut, flatten-cut-take, flatten-all}
 use Rattle.refusal.specs.declared.Params.{Params}
 use Rattle.refusal.specs.First.{firstOf, first-clear, Clear, rising, someTrue, none-true}
 use Rattle.scheme.specs.Arithmetic.{isResidue, fits}
@@ -66,7 +66,7 @@ module _ {p : Params} {inputs : ℕ} {gates : List Gate} {wires : List ℤ} {Bs 
     input-residues =
         let rows : List (List ℤ) = cut (p .n) inputs wires in
         let joined : all (isResidue (p .q)) (flatten rows) ≡ true = ap (all (isResidue (p .q))) (flatten-cut-take (p .n) inputs wires) ∙ a .residues in
-        each-getD (all-flatten (isResidue (p .q)) rows joined) i [] (omega (arith, length-cut (p .n) inputs wires))
+        each-getD (flatten-all (isResidue (p .q)) rows joined) i [] (omega (arith, length-cut (p .n) inputs wires))
 
   module _ (i : ℕ) (z : Gate) (inside : i < length gates) where
     -- the operands of gate i lie below its own wire

@@ -14,10 +14,11 @@ use Rattle.refusal.specs.Parameters.{InRange}
 use Rattle.scheme.specs.Arithmetic.{isResidue, noise, XOR, XOR-bound, AND, AND-bound, NOT, NOT-bound}
 use Rattle.scheme.specs.Calls.{badParams, differs, badKey, keyCheckRows, decryptAnswer, decrypted}
 use Rattle.scheme.specs.Passed.{params-in-range, length-is, key-begins, key-within}
-use Rattle.noise.specs.Gates.{xor-noise, length-XOR, xor-residues, not-noise, length-NOT, not-residues, decrypt-right}
+use Rattle.scheme.specs.Wording.{length-XOR, xor-residues, length-NOT, not-residues, length-AND, and-residues}
+use Rattle.noise.specs.Gates.{xor-noise, not-noise, decrypt-right}
 use Rattle.noise.specs.Fresh.{decrypt-accepts}
 use Rattle.noise.specs.Built.{BuiltFor}
-use Rattle.noise.specs.And.{length-AND, and-residues, and-noise}
+use Rattle.noise.specs.And.{and-noise}
 use Rattle.circuit.specs.declared.Gate.{Gate}
 use Rattle.circuit.specs.Circuits.{byKind, gateBit, gateBound, gateWire}
 use Rattle.circuit.specs.Records.{Below}

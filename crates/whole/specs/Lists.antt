@@ -11,7 +11,7 @@ use native.Mathlib.Numerals.{add-one}
 use native.Mathlib.Omega.{arith}
 use lib.Dec.{eqb}
 use lib.ListN.{length, getD, take, drop, set, length-append, length-map, length-drop, length-set, drop-of-length-le, List·getD-append, length-take, take-append-drop}
-use lib.Seq.{getD-take, getD-drop, length-take-le, take-suc, take-all, take-add, take-at, drop-at, drop-drop, getD-append-add, paste-suc, length-front}
+use lib.Seq.{getD-take, getD-drop, length-take-le, take-suc, take-all, take-take, take-add, take-at, drop-at, drop-drop, getD-append-add, paste-suc, length-front}
 use borrow.Author.Tests.{ne-eqb}
 
 -- two lists entry by entry (`zipWith`, the library's), all pairs of two lists (`grid`), a list in rows (`cut`, `flatten`), and a list
@@ -286,6 +286,17 @@ module _ {ℓ} {A : Type ℓ} where
         so-far = r;
       }
 
+-- n entries from i on are those of the first m, where they lie among them
+pub part-take {ℓ} : {A : Type ℓ} (i n m : ℕ) (xs : List A) → i + n ≤ m → take n (drop i (take m xs)) ≡ take n (drop i xs)
+part-take zero n m xs h = take-take n m xs (omega arith)
+part-take (suc i) n zero xs h = absurd (omega arith)
+part-take (suc i) n (suc m) [] h = refl
+part-take (suc i) n (suc m) (x ∷ xs) h = part-take i n m xs (omega arith)
+
+-- so they pass where the first m do
+pub all-part-take {ℓ} : {A : Type ℓ} (p : A → Bool) (i n m : ℕ) (xs : List A) → i + n ≤ m → all p (take m xs) ≡ true → all p (take n (drop i xs)) ≡ true
+all-part-take p i n m xs h e = rw (part-take i n m xs h) at (all-part p i n (take m xs) e)
+
 -- all from i on put in as one part
 pub put-to-end {ℓ} : {A : Type ℓ} (i : ℕ) (xs ys : List A) → take i xs ++ (ys ++ drop (length xs - i) (drop i xs)) ≡ take i xs ++ ys
 put-to-end i xs ys =
@@ -458,12 +469,16 @@ module _ {ℓ} {A : Type ℓ} where
   pub flatten-cut : (n k : ℕ) (xs : List A) → length xs ≤ k * n → flatten (cut n k xs) ≡ xs
   flatten-cut n k xs h = flatten-cut-take n k xs ∙ take-all (k * n) xs h
 
-  -- rows of one length n, joined and cut again
-  pub cut-flatten : {n : ℕ} {rows : List (List A)} → Each (λ row. length row ≡ n) rows → cut n (length rows) (flatten rows) ≡ rows
+  -- rows of one length n, joined and cut again, whatever lies after them
+  pub cut-flatten-append : {n : ℕ} {rows : List (List A)} → Each (λ row. length row ≡ n) rows → (rest : List A) → cut n (length rows) (flatten rows ++ rest) ≡ rows
   unfolding cut flatten
-  cut-flatten nil = refl
-  cut-flatten {n} (cons {x = row} {xs = rows} e es) =
-      ap₂ {C = List (List A)} _∷_ (take-at row (flatten rows) n e) (rw (drop-at row (flatten rows) n) (cut-flatten es))
+  cut-flatten-append nil rest = refl
+  cut-flatten-append {n} (cons {x = row} {xs = rows} e es) rest =
+      rw append-assoc
+      (ap₂ {C = List (List A)} _∷_ (take-at row (flatten rows ++ rest) n e) (rw (drop-at row (flatten rows ++ rest) n e) (cut-flatten-append es rest)))
+
+  pub cut-flatten : {n : ℕ} {rows : List (List A)} → Each (λ row. length row ≡ n) rows → cut n (length rows) (flatten rows) ≡ rows
+  cut-flatten {n} {rows} e = ap (cut n (length rows)) (sym (append-nil (flatten rows))) ∙ cut-flatten-append e []
 
   -- so row i of them, joined, begins at i·n
   pub getD-flatten : {n : ℕ} {rows : List (List A)} → Each (λ row. length row ≡ n) rows → (i : ℕ) (d : List A) → i < length rows
@@ -471,9 +486,27 @@ module _ {ℓ} {A : Type ℓ} where
   getD-flatten {n} {rows} es i d h = sym (getD-cut n (length rows) (flatten rows) i d h) ∙ ap (λ (l : List (List A)). getD l i d) (cut-flatten es)
 
   -- a test that all entries of the rows pass
-  pub all-flatten : (p : A → Bool) (rows : List (List A)) → all p (flatten rows) ≡ true → Each (λ row. all p row ≡ true) rows
+  pub flatten-all : (p : A → Bool) (rows : List (List A)) → all p (flatten rows) ≡ true → Each (λ row. all p row ≡ true) rows
   unfolding flatten
-  all-flatten p [] t = nil
-  all-flatten p (row ∷ rows) t =
+  flatten-all p [] t = nil
+  flatten-all p (row ∷ rows) t =
       let both : (all p row ≡ true) × (all p (flatten rows) ≡ true) = and-eq-true-iff (all p row) (all p (flatten rows)) .0 (sym (all-append p row (flatten rows)) ∙ t) in
-      cons (both .0) (all-flatten p rows (both .1))
+      cons (both .0) (flatten-all p rows (both .1))
+
+  -- joined they are as many entries as the rows have
+  pub length-flatten : {n : ℕ} {rows : List (List A)} → Each (λ row. length row ≡ n) rows → length (flatten rows) ≡ length rows * n
+  unfolding flatten
+  length-flatten nil = omega arith
+  length-flatten {n} (cons {x = row} {xs = rows} e es) = omega (arith, length-append row (flatten rows), length-flatten es, suc-mul (length rows) n)
+
+  -- and pass where each row does
+  pub all-flatten : (p : A → Bool) {rows : List (List A)} → Each (λ row. all p row ≡ true) rows → all p (flatten rows) ≡ true
+  unfolding flatten all
+  all-flatten p nil = refl
+  all-flatten p (cons {x = row} {xs = rows} e es) = all-append p row (flatten rows) ∙ and-eq-true-iff (all p row) (all p (flatten rows)) .1 (e, all-flatten p es)
+
+  -- one row more
+  pub flatten-suc : (rows : List (List A)) (row : List A) → flatten (rows ++ (row ∷ [])) ≡ flatten rows ++ row
+  unfolding flatten
+  flatten-suc [] row = append-nil row
+  flatten-suc (first ∷ rows) row = ap (λ (r : List A). first ++ r) (flatten-suc rows row) ∙ sym (append-assoc first (flatten rows) row)

@@ -1,0 +1,135 @@
+-- `evaluate::evaluate` answers and writes as evaluation is defined, in two stages (`Evaluated`): where its own rows refuse, nothing is written; else the
+-- answer and the bounds are planning's; and where planning does not refuse either (`EvaluateReady`) the wires are what `work` makes and the scratch is zeros.
+use mathlib.Core.Path.{_≡_, sym, ap, _∙_}
+use mathlib.Core.Logic.{_≢_}
+use Prim.Native.Nat.{ℕ}
+use lib.IntN.{pos}
+use lib.ListN.{length, take, replicate}
+use borrow.Author.Needs.{needs}
+use Rattle.refusal.specs.declared.Refusal.{Refusal}
+use Rattle.refusal.specs.First.{firstOf, doneOr-done, doneOr-refused}
+use Rattle.circuit.specs.Core.{evaluateCoreRows, evaluateCoreAnswer, evaluateCoreWires, evaluateCoreBounds, evaluateCoreScratch}
+use Rattle.circuit.proofs.Evaluated.{EvaluateReady, early-number, early-answer, late-answer, late-bounds, answer-number, evaluate-ready}
+use Rattle.circuit.proofs.evaluate.evaluate.Statement.{statement}
+use Rattle.circuit.proofs.evaluate.evaluate.Tie as tie
+
+-- the number of the definition
+abbrev number : tie.Start → ℕ
+number s =
+    let a = s .args in
+    firstOf (evaluateCoreRows (a .p) (a .inputs) (a .kinds .now) (a .lefts .now) (a .rights .now) (a .wires .now) (a .bounds .now) (a .key .now) (length (a .scratch .now)))
+
+evaluate-number-requires : tie.Need-evaluate-number-requires
+evaluate-number-requires c κs = search needs
+
+same-length : tie.Need-same-length
+same-length c = search needs
+
+same-length-2 : tie.Need-same-length-2
+same-length-2 c = search needs
+
+returns : tie.Need-returns
+unfolding evaluateCoreWires evaluateCoreBounds evaluateCoreScratch
+returns c =
+    let s = c .before .before .before .before .before .before .before .before in
+    let e = c .before .evaluate-number .ensures in
+    let refuses : number s ≢ 0 = λ z. c .if1 .taken (sym (early-number _ _ _ _ _ _ _ _ _ e (c .if1 .taken)) ∙ z) in
+    (early-answer _ _ _ _ _ _ _ _ _ e (c .if1 .taken), (sym (doneOr-refused _ _ refuses), (sym (doneOr-refused _ _ refuses), sym (doneOr-refused _ _ refuses))))
+
+plan-requires : tie.Need-plan-requires
+plan-requires c κs = search needs
+
+same-length-3 : tie.Need-same-length-3
+same-length-3 c = search needs
+
+same-length-4 : tie.Need-same-length-4
+same-length-4 c = search needs
+
+-- ---- the first stage is passed, and planning has answered
+
+abbrev start : tie.After-plan → tie.Start
+start c = c .before .before .before .before .before .before .before .before .before .before
+
+early : (c : tie.After-plan)
+    → (let a = start c .args in
+    firstOf (take 4 (evaluateCoreRows (a .p) (a .inputs) (a .kinds .now) (a .lefts .now) (a .rights .now) (a .wires .now) (a .bounds .now) (a .key .now) (length (a .scratch .now)))))
+    ≡ 0
+early c = sym (c .before .before .before .evaluate-number .ensures) ∙ c .before .before .if1 .left
+
+answer : (c : tie.After-plan)
+    → (let a = start c .args in
+    c .plan .result ≡ evaluateCoreAnswer (a .p) (a .inputs) (a .kinds .now) (a .lefts .now) (a .rights .now) (a .wires .now) (a .bounds .now) (a .key .now) (length (a .scratch .now)))
+answer c = c .plan .ensures .0 ∙ late-answer _ _ _ _ _ _ _ _ _ (early c)
+
+number-is : (c : tie.After-plan) → c .plan .result .number ≡ number (start c)
+number-is c = let a = start c .args in ap (λ (r : Refusal). r .number) (answer c) ∙ answer-number (a .p) (a .inputs) (a .kinds .now) (a .lefts .now) (a .rights .now) (a .wires .now) (a .bounds .now) (a .key .now) (length (a .scratch .now))
+
+returns-2 : tie.Need-returns-2
+unfolding evaluateCoreWires evaluateCoreScratch
+returns-2 c =
+    let d = c .before .before .before .before in
+    let refuses : number (start d) ≢ 0 = λ z. c .if2 .taken (number-is d ∙ z) in
+    (answer d, (sym (doneOr-refused _ _ refuses), (d .plan .ensures .1 ∙ late-bounds _ _ _ _ _ _ _ _ _ (early d), sym (doneOr-refused _ _ refuses))))
+
+-- ---- neither refuses
+
+done : (c : tie.Else2) → number (start (c .before .before .before .before)) ≡ 0
+done c = sym (number-is (c .before .before .before .before)) ∙ c .if2 .left
+
+ready : (c : tie.Else2)
+    → (let a = start (c .before .before .before .before) .args in
+    EvaluateReady (a .p) (a .inputs) (a .kinds .now) (a .lefts .now) (a .rights .now) (a .wires .now) (a .key .now) (length (a .scratch .now)))
+ready c = evaluate-ready _ _ _ _ _ _ _ _ _ (done c)
+
+work-requires : tie.Need-work-requires
+work-requires c κs =
+    let r = ready (c .before .before) in
+    (r .range, r .lefts-long, r .rights-long, r .wires-long, r .gates-right, r .scratch-long, r .inside, r .key-long, r .key-inside)
+
+zero-requires : tie.Need-zero-requires
+zero-requires c κs = search needs
+
+same-length-5 : tie.Need-same-length-5
+same-length-5 c = search needs
+
+same-length-6 : tie.Need-same-length-6
+same-length-6 c = search needs
+
+same-length-7 : tie.Need-same-length-7
+same-length-7 c = search needs
+
+returns-3 : tie.Need-returns-3
+unfolding evaluateCoreWires evaluateCoreScratch
+returns-3 c =
+    let s = c .before .before .before in
+    let w = s .before .before in
+    let e = w .before .before .before in
+    let d = e .before .before .before .before in (
+      answer d,
+      (
+        w .work .ensures ∙ sym (doneOr-done _ _ (done e)),
+        (
+          d .plan .ensures .1 ∙ late-bounds _ _ _ _ _ _ _ _ _ (early d),
+          c .before .zero .ensures ∙ ap (λ (k : ℕ). replicate k (pos 0)) (s .scratch .given ∙ ready e .scratch-long) ∙ sym (doneOr-done _ _ (done e)),
+        ),
+      ),
+    )
+
+pub evaluate-spec : {M : Type 1} → statement M
+evaluate-spec =
+    tie.close
+    (tie.spec
+    evaluate-number-requires
+    same-length
+    same-length-2
+    returns
+    plan-requires
+    same-length-3
+    same-length-4
+    returns-2
+    work-requires
+    zero-requires
+    same-length-5
+    same-length-6
+    same-length-7
+    returns-3)
