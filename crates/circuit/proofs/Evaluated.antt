@@ -20,6 +20,7 @@ use Rattle.scheme.specs.Calls.{differs}
 use Rattle.scheme.specs.Passed.{params-in-range, length-is, entries-inside}
 use Rattle.circuit.specs.declared.Gate.{Gate}
 use Rattle.circuit.specs.Circuits.{badCounts, wrongGates, gateRows, placeOf}
+use Rattle.circuit.specs.Ready.{EvaluateReady}
 use Rattle.circuit.specs.Core.{records, uneven, planCoreRows, planCoreAnswer, planCoreBounds, evaluateCoreRows, evaluateCoreAnswer, evaluateCoreBounds}
 
 -- ---- refusals 2, and places
@@ -38,17 +39,6 @@ unfolding placeOf
 place-none p inputs gs Bs k h = rw (ne-eqb k 9 (λ e. omega arith), ne-eqb k 10 (λ e. omega arith))
 
 -- ---- the two stages
-
-pub record EvaluateReady (p : Params) (inputs : ℕ) (ks ls rs : List ℕ) (wires W : List ℤ) (scratch : ℕ) : Type 0 where
-  pub range : InRange p
-  pub lefts-long : length ls ≡ length ks
-  pub rights-long : length rs ≡ length ks
-  pub wires-long : length wires ≡ (inputs + length ks) * p .n
-  pub key-long : length W ≡ p .n * (p .n * p .n)
-  pub scratch-long : scratch ≡ p .n * p .n
-  pub inside : all (isResidue (p .q)) (take (inputs * p .n) wires) ≡ true
-  pub key-inside : all (isResidue (p .q * p .q)) W ≡ true
-  pub gates-right : someTrue (wrongGates inputs (records ks ls rs)) ≡ false
 
 module _ (p : Params) (inputs : ℕ) (ks ls rs : List ℕ) (wires : List ℤ) (Bs : List ℕ) (W : List ℤ) (scratch : ℕ) where
   abbrev rows : List Row

@@ -4,10 +4,12 @@ ghost use mathlib.Core.List.{_++_, flatten};
 ghost use Prim.Native.Nat.{_+_, _*_, _≤_, _<_};
 ghost use lib.ListN.{length, take, drop};
 ghost use Rattle.whole.specs.Lists.{all, cut};
-ghost use Rattle.refusal.specs.First.{someTrue, firstOf};
+ghost use Rattle.refusal.specs.First.{firstOf};
 ghost use Rattle.refusal.specs.Parameters.{InRange};
 ghost use Rattle.scheme.specs.Arithmetic.{isResidue, XOR, NOT, AND};
-ghost use Rattle.circuit.specs.Circuits.{wrongGate, wrongGates, gateWire, wiresOf};
+ghost use Rattle.modular.specs.Loans.{Modulus};
+ghost use Rattle.circuit.specs.Circuits.{byKind, wrongGate, gateWire, wiresOf};
+ghost use Rattle.circuit.specs.Ready.{EvaluateReady};
 ghost use Rattle.circuit.specs.Core.{gate, records, evaluateCoreRows, evaluateCoreAnswer, evaluateCoreWires, evaluateCoreBounds, evaluateCoreScratch};
 use crate::checks::are_bad_counts;
 use crate::plan::plan;
@@ -22,63 +24,31 @@ use regev::tests::is_outside;
 use regev::tests::is_outside_big;
 use regev::tests::length_differs;
 
-// XOR of the wires that begin at `a` and `b` into the wire that begins at `at`. The operands are copied to the scratch first, since the
-// wire that is made is lent alone.
-fn work_xor(p: Params, a: usize, b: usize, at: usize, wires: &mut [i64], scratch: &mut [i64])
-    requires { ⌜ InRange p × (a + p .n ≤ at) × (b + p .n ≤ at) × (at + p .n ≤ length (now wires)) × (length (now scratch) ≡ p .n * p .n) × (all (isResidue (p .q)) (take at (now wires)) ≡ true) ⌝ }
-    ensures { λ r. ⌜ now (wires .exit) ≡ take at (now (wires .entry)) ++ (XOR (p .q) (take (p .n) (drop a (now (wires .entry)))) (take (p .n) (drop b (now (wires .entry)))) ++ drop (at + p .n) (now (wires .entry))) ⌝ }
-{
-    let n = p.n as usize;
-    copy(&wires[a..a + n], &mut scratch[0..n]);
-    copy(&wires[b..b + n], &mut scratch[n..2 * n]);
-    xor_into(
-        p.q,
-        &scratch[0..n],
-        &scratch[n..2 * n],
-        &mut wires[at..at + n],
-    );
-}
-
-// NOT of the wire that begins at `a` into the wire that begins at `at`.
-fn work_not(p: Params, a: usize, at: usize, wires: &mut [i64], scratch: &mut [i64])
-    requires { ⌜ InRange p × (a + p .n ≤ at) × (at + p .n ≤ length (now wires)) × (length (now scratch) ≡ p .n * p .n) × (all (isResidue (p .q)) (take at (now wires)) ≡ true) ⌝ }
-    ensures { λ r. ⌜ now (wires .exit) ≡ take at (now (wires .entry)) ++ (NOT (p .q) (take (p .n) (drop a (now (wires .entry)))) ++ drop (at + p .n) (now (wires .entry))) ⌝ }
-{
-    let n = p.n as usize;
-    copy(&wires[a..a + n], &mut scratch[0..n]);
-    not_into(p.q, &scratch[0..n], &mut wires[at..at + n]);
-}
-
-// AND of the wires that begin at `a` and `b` into the wire that begins at `at`. The operands are copied to arrays of their own, since
-// the scratch takes the tensor.
-fn work_and(
-    p: Params,
-    a: usize,
-    b: usize,
-    at: usize,
-    wires: &mut [i64],
+// What a gate makes of its operands c and d, into the stretch of its own wire; NOT takes c alone.
+fn make_wire(
+    q: u32,
+    kind: u32,
+    c: &[i64],
+    d: &[i64],
     key: &[i64],
     scratch: &mut [i64],
+    out: &mut [i64],
 )
-    requires { ⌜ InRange p × (a + p .n ≤ at) × (b + p .n ≤ at) × (at + p .n ≤ length (now wires)) × (length (now scratch) ≡ p .n * p .n) × (all (isResidue (p .q)) (take at (now wires)) ≡ true) × (length (now key) ≡ p .n * (p .n * p .n)) × (all (isResidue (p .q * p .q)) (now key) ≡ true) ⌝ }
-    ensures { λ r. ⌜ now (wires .exit) ≡ take at (now (wires .entry)) ++ (AND (p .n) (p .q) (now (key .entry)) (take (p .n) (drop a (now (wires .entry)))) (take (p .n) (drop b (now (wires .entry)))) ++ drop (at + p .n) (now (wires .entry))) ⌝ }
+    requires { ⌜ Modulus q × (0 < length (now out)) × (length (now out) ≤ 1024) × (length (now c) ≡ length (now out)) × (length (now d) ≡ length (now out)) × (length (now scratch) ≡ length (now out) * length (now out)) × (length (now key) ≡ length (now out) * (length (now out) * length (now out))) × (all (isResidue q) (now c) ≡ true) × (all (isResidue q) (now d) ≡ true) × (all (isResidue (q * q)) (now key) ≡ true) ⌝ }
+    ensures { λ r. ⌜ now (out .exit) ≡ byKind kind (XOR q (now (c .entry)) (now (d .entry))) (AND (length (now (out .entry))) q (now (key .entry)) (now (c .entry)) (now (d .entry))) (NOT q (now (c .entry))) ⌝ }
 {
-    let n = p.n as usize;
-    let mut c = [0i64; 1024];
-    let mut d = [0i64; 1024];
-    copy(&wires[a..a + n], &mut c[0..n]);
-    copy(&wires[b..b + n], &mut d[0..n]);
-    and_into(
-        p.q,
-        &c[0..n],
-        &d[0..n],
-        key,
-        scratch,
-        &mut wires[at..at + n],
-    );
+    if kind == 0 {
+        xor_into(q, c, d, out);
+        return;
+    }
+    if kind == 1 {
+        and_into(q, c, d, key, scratch, out);
+        return;
+    }
+    not_into(q, c, out);
 }
 
-// Works the gate that makes the wire `own`.
+// Works the gate that makes the wire `own`. The operands are copied to c and d first, since the wire that is made is lent alone.
 fn work_gate(
     p: Params,
     kind: u32,
@@ -87,27 +57,59 @@ fn work_gate(
     own: usize,
     wires: &mut [i64],
     key: &[i64],
+    c: &mut [i64],
+    d: &mut [i64],
     scratch: &mut [i64],
 )
-    requires { ⌜ InRange p × (own * p .n + p .n ≤ length (now wires)) × (wrongGate own (gate kind left right) ≡ false) × (length (now scratch) ≡ p .n * p .n) × (all (isResidue (p .q)) (take (own * p .n) (now wires)) ≡ true) × (length (now key) ≡ p .n * (p .n * p .n)) × (all (isResidue (p .q * p .q)) (now key) ≡ true) ⌝ }
+    requires { ⌜ InRange p × (own * p .n + p .n ≤ length (now wires)) × (wrongGate own (gate kind left right) ≡ false) × (length (now c) ≡ p .n) × (length (now d) ≡ p .n) × (length (now scratch) ≡ p .n * p .n) × (all (isResidue (p .q)) (take (own * p .n) (now wires)) ≡ true) × (length (now key) ≡ p .n * (p .n * p .n)) × (all (isResidue (p .q * p .q)) (now key) ≡ true) ⌝ }
     ensures { λ r. ⌜ now (wires .exit) ≡ take (own * p .n) (now (wires .entry)) ++ (gateWire p (now (key .entry)) (gate kind left right) (cut (p .n) own (now (wires .entry))) ++ drop (own * p .n + p .n) (now (wires .entry))) ⌝ }
 {
     let n = p.n as usize;
-    let at = own * n;
     let a = (left as usize) * n;
-    if kind == 2 {
-        work_not(p, a, at, wires, scratch);
-        return;
-    }
     let b = (right as usize) * n;
-    if kind == 1 {
-        work_and(p, a, b, at, wires, key, scratch);
-        return;
-    }
-    work_xor(p, a, b, at, wires, scratch);
+    let at = own * n;
+    copy(&wires[a..a + n], c);
+    copy(&wires[b..b + n], d);
+    make_wire(p.q, kind, c, d, key, scratch, &mut wires[at..at + n]);
 }
 
-// Works all gates, one wire after the other.
+// Works all gates, one wire after the other; c and d take the operands of each.
+fn work_gates(
+    p: Params,
+    inputs: usize,
+    kinds: &[u32],
+    lefts: &[u32],
+    rights: &[u32],
+    wires: &mut [i64],
+    key: &[i64],
+    c: &mut [i64],
+    d: &mut [i64],
+    scratch: &mut [i64],
+)
+    requires { ⌜ EvaluateReady p inputs (now kinds) (now lefts) (now rights) (now wires) (now key) (length (now scratch)) × (length (now c) ≡ p .n) × (length (now d) ≡ p .n) ⌝ }
+    ensures { λ r. ⌜ now (wires .exit) ≡ flatten (wiresOf p (now (key .entry)) (records (now (kinds .entry)) (now (lefts .entry)) (now (rights .entry))) (cut (p .n) inputs (now (wires .entry)))) ⌝ }
+{
+    let mut own = inputs;
+    let mut g = 0;
+    while g < kinds.len() {
+        work_gate(
+            p,
+            kinds[g],
+            lefts[g],
+            rights[g],
+            own,
+            wires,
+            key,
+            c,
+            d,
+            scratch,
+        );
+        own += 1;
+        g += 1;
+    }
+}
+
+// Works all gates, with room for the operands of a gate that is made once.
 fn work(
     p: Params,
     inputs: usize,
@@ -118,16 +120,24 @@ fn work(
     key: &[i64],
     scratch: &mut [i64],
 )
-    requires { ⌜ InRange p × (length (now lefts) ≡ length (now kinds)) × (length (now rights) ≡ length (now kinds)) × (length (now wires) ≡ (inputs + length (now kinds)) * p .n) × (someTrue (wrongGates inputs (records (now kinds) (now lefts) (now rights))) ≡ false) × (length (now scratch) ≡ p .n * p .n) × (all (isResidue (p .q)) (take (inputs * p .n) (now wires)) ≡ true) × (length (now key) ≡ p .n * (p .n * p .n)) × (all (isResidue (p .q * p .q)) (now key) ≡ true) ⌝ }
+    requires { ⌜ EvaluateReady p inputs (now kinds) (now lefts) (now rights) (now wires) (now key) (length (now scratch)) ⌝ }
     ensures { λ r. ⌜ now (wires .exit) ≡ flatten (wiresOf p (now (key .entry)) (records (now (kinds .entry)) (now (lefts .entry)) (now (rights .entry))) (cut (p .n) inputs (now (wires .entry)))) ⌝ }
 {
-    let mut own = inputs;
-    let mut g = 0;
-    while g < kinds.len() {
-        work_gate(p, kinds[g], lefts[g], rights[g], own, wires, key, scratch);
-        own += 1;
-        g += 1;
-    }
+    let n = p.n as usize;
+    let mut c = [0i64; 1024];
+    let mut d = [0i64; 1024];
+    work_gates(
+        p,
+        inputs,
+        kinds,
+        lefts,
+        rights,
+        wires,
+        key,
+        &mut c[0..n],
+        &mut d[0..n],
+        scratch,
+    );
 }
 
 // The number for evaluation up to 6: 1, 2, 3, 6 or 0. What is left, 8, 9 and 10, is planning's.

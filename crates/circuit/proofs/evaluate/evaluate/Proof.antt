@@ -9,7 +9,8 @@ use borrow.Author.Needs.{needs}
 use Rattle.refusal.specs.declared.Refusal.{Refusal}
 use Rattle.refusal.specs.First.{firstOf, doneOr-done, doneOr-refused}
 use Rattle.circuit.specs.Core.{evaluateCoreRows, evaluateCoreAnswer, evaluateCoreWires, evaluateCoreBounds, evaluateCoreScratch}
-use Rattle.circuit.proofs.Evaluated.{EvaluateReady, early-number, early-answer, late-answer, late-bounds, answer-number, evaluate-ready}
+use Rattle.circuit.specs.Ready.{EvaluateReady}
+use Rattle.circuit.proofs.Evaluated.{early-number, early-answer, late-answer, late-bounds, answer-number, evaluate-ready}
 use Rattle.circuit.proofs.evaluate.evaluate.Statement.{statement}
 use Rattle.circuit.proofs.evaluate.evaluate.Tie as tie
 
@@ -82,9 +83,7 @@ ready : (c : tie.Else2)
 ready c = evaluate-ready _ _ _ _ _ _ _ _ _ (done c)
 
 work-requires : tie.Need-work-requires
-work-requires c κs =
-    let r = ready (c .before .before) in
-    (r .range, r .lefts-long, r .rights-long, r .wires-long, r .gates-right, r .scratch-long, r .inside, r .key-long, r .key-inside)
+work-requires c κs = ready (c .before .before)
 
 zero-requires : tie.Need-zero-requires
 zero-requires c κs = search needs

@@ -1,149 +1,67 @@
--- `evaluate::work` makes the buffer the wires of the evaluation. The invariant is `Worked`: after g gates the buffer begins with the wires of the run over
--- those gates, and the rest is as found; `own` is the wire of gate g. The measure is what is left of the gates. Leans on what `work_gate` ensures.
-use mathlib.Core.Path.{_≡_, refl, sym, ap, _∙_}
-use mathlib.Core.Bool.{false}
-use Prim.Native.Nat.{ℕ, _+_, _*_, _-_, _≤_, _<_}
-use native.Mathlib.Nat.{le-refl, add-zero, mul-le-mul, mul-le-mul-right}
+-- `evaluate::work` lends `work_gates` the first n entries of two arrays of 1,024, and ensures what that does.
+use mathlib.Core.Path.{_≡_, _∙_}
+use Prim.Native.Nat.{ℕ, _-_, _≤_}
+use native.Mathlib.Nat.{sub-zero}
 use native.Mathlib.Omega.{arith}
-use lib.ListN.{length, getD}
-use Rattle.whole.specs.Lists.{row-ends}
-use Rattle.circuit.specs.declared.Gate.{Gate}
-use Rattle.circuit.specs.Circuits.{wrongGate}
-use Rattle.circuit.specs.Core.{gate, records}
-use Rattle.circuit.specs.Records.{length-records, getD-records}
-use Rattle.circuit.specs.Wires.{gate-right}
-use Rattle.circuit.proofs.Worked.{Worked, work-start, worked-inside, work-step, work-end}
+use lib.IntN.{pos}
+use lib.ListN.{length, take, replicate}
+use lib.Seq.{length-take-le}
+use borrow.Author.Needs.{needs}
 use Rattle.circuit.proofs.evaluate.work.Statement.{statement}
 use Rattle.circuit.proofs.evaluate.work.Tie as tie
 
-abbrev Inv-loop : tie.InvT-loop
-Inv-loop p inputs kinds lefts rights wires₀ key scratch₀ own₀ g₀ wires scratch own g = (own ≡ inputs + g) × (length scratch ≡ length scratch₀) × Worked p key (records kinds lefts rights) inputs wires₀ wires g
+cast-n : tie.Need-cast-n
+cast-n c = search needs
 
-abbrev μ-loop : tie.MeasureT-loop
-μ-loop p inputs kinds lefts rights wires₀ key scratch₀ own₀ g₀ wires scratch own g = length kinds - g
+sub-work-gates : tie.Need-sub-work-gates
+sub-work-gates c = search needs
 
--- ---- a turn
+part-c-start : tie.Need-part-c-start
+part-c-start c = search needs
 
-abbrev start : tie.At-loop Inv-loop μ-loop → tie.Start Inv-loop μ-loop
-start l = l .before .before .before .before
+part-c-end : tie.Need-part-c-end
+part-c-end c = search needs
 
--- the gate that is worked
-abbrev here : tie.At-loop Inv-loop μ-loop → Gate
-here l = let a = start l .args in gate (getD (a .kinds .now) (l .loop .g) 0) (getD (a .lefts .now) (l .loop .g) 0) (getD (a .rights .now) (l .loop .g) 0)
+sub-work-gates-2 : tie.Need-sub-work-gates-2
+sub-work-gates-2 c = search needs
 
-here-is : (c : tie.In-loop Inv-loop μ-loop)
-    → (let s = start (c .before) in getD (records (s .args .kinds .now) (s .args .lefts .now) (s .args .rights .now)) (c .before .loop .g) (gate 0 0 0) ≡ here (c .before))
-here-is c = let s = start (c .before) in getD-records (s .args .kinds .now) (s .args .lefts .now) (s .args .rights .now) (c .before .loop .g) (gate 0 0 0) (s .pre .1) (s .pre .2) (c .loop-test .taken)
+part-d-start : tie.Need-part-d-start
+part-d-start c = search needs
 
-count : (l : tie.At-loop Inv-loop μ-loop) → (let s = start l in length (records (s .args .kinds .now) (s .args .lefts .now) (s .args .rights .now)) ≡ length (s .args .kinds .now))
-count l = let s = start l in length-records (s .args .kinds .now) (s .args .lefts .now) (s .args .rights .now) (s .pre .1) (s .pre .2)
+part-d-end : tie.Need-part-d-end
+part-d-end c = search needs
 
--- it is not wrong
-right : (c : tie.In-loop Inv-loop μ-loop) → wrongGate (start (c .before) .args .inputs + c .before .loop .g) (here (c .before)) ≡ false
-right c =
-    let s = start (c .before) in
-    rw here-is at (gate-right (s .args .inputs) (records (s .args .kinds .now) (s .args .lefts .now) (s .args .rights .now)) (c .before .loop .g) (gate 0 0 0) (s .pre .4) (rw (count (c .before)) (c .loop-test .taken)))
+-- the first n entries of an array are n
+operand-room : (n : ℕ) → n ≤ 1024 → length (take (n - 0) (replicate 1024 (pos 0))) ≡ n
+operand-room n h = length-take-le (n - 0) (replicate 1024 (pos 0)) (omega arith) ∙ sub-zero n
 
--- and its wire lies within the buffer
-inside : (c : tie.In-loop Inv-loop μ-loop) → (let s = start (c .before) in c .before .loop .own * s .args .p .n + s .args .p .n ≤ length (s .args .wires .now))
-inside c =
-    let s = start (c .before) in
-    let below : c .before .loop .own < s .args .inputs + length (s .args .kinds .now) = omega (arith, c .loop-test .taken, c .before .loop .inv .0) in
-    rw (s .pre .3) (row-ends (s .args .p .n) (s .args .inputs + length (s .args .kinds .now)) (c .before .loop .own) below)
+work-gates-requires : tie.Need-work-gates-requires
+work-gates-requires c κs =
+    let s = c .before .before .before .before .before .before .before .before in
+    let n = operand-room (s .args .p .n) (s .pre .range .n-high) in
+    (s .pre, n, n)
 
-loop-holds : tie.Need-loop-holds Inv-loop μ-loop
-loop-holds c =
-    let s = c .before .before .before in
-    (sym (add-zero (s .args .inputs)), refl, work-start (rw (s .pre .3) (mul-le-mul-right (s .args .p .n) (omega arith))) (s .pre .6))
+same-length : tie.Need-same-length
+same-length c = search needs
 
-mul-work-gate : tie.Need-mul-work-gate Inv-loop μ-loop
-mul-work-gate c = omega arith
+same-length-2 : tie.Need-same-length-2
+same-length-2 c = search needs
 
-shared-slice-read-work-gate : tie.Need-shared-slice-read-work-gate Inv-loop μ-loop
-shared-slice-read-work-gate c = omega arith
-
-mul-work-gate-2 : tie.Need-mul-work-gate-2 Inv-loop μ-loop
-mul-work-gate-2 c = omega arith
-
-shared-slice-read-work-gate-2 : tie.Need-shared-slice-read-work-gate-2 Inv-loop μ-loop
-shared-slice-read-work-gate-2 c = omega arith
-
-mul-work-gate-3 : tie.Need-mul-work-gate-3 Inv-loop μ-loop
-mul-work-gate-3 c = omega arith
-
-shared-slice-read-work-gate-3 : tie.Need-shared-slice-read-work-gate-3 Inv-loop μ-loop
-shared-slice-read-work-gate-3 c = omega arith
-
-work-gate-requires : tie.Need-work-gate-requires Inv-loop μ-loop
-work-gate-requires c κs =
-    let i = c .before .before .before .before .before in
-    let l = i .before in
-    let s = start l in
-    let v = l .loop .inv in (
-      s .pre .0,
-      rw (v .2 .kept) (inside i),
-      rw (v .0) (right i),
-      v .1 ∙ s .pre .5,
-      rw (v .0) (worked-inside (v .2)),
-      s .pre .7,
-      s .pre .8,
-    )
-
-add-own : tie.Need-add-own Inv-loop μ-loop
-add-own c =
-    let i = c .before .before .before .before .before .before .before .before in
-    let s = start (i .before) in
-    let one : 1 ≤ s .args .p .n = omega (arith, s .pre .0 .n-low) in
-    omega (arith, inside i, mul-le-mul (le-refl (i .before .loop .own)) one, s .good .1 .1 .1 .1 .1 .0 .0)
-
-add-g : tie.Need-add-g Inv-loop μ-loop
-add-g c = omega arith
-
-loop-less : tie.Need-loop-less Inv-loop μ-loop
-loop-less c = omega arith
-
-loop-again : tie.Need-loop-again Inv-loop μ-loop
-loop-again c =
-    let w = c .before .before in
-    let i = w .before .before .before .before .before .before in
-    let l = i .before in
-    let s = start l in
-    let v = l .loop .inv in (
-      omega arith,
-      c .scratch .given ∙ v .1,
-      work-step (v .2) (gate 0 0 0) (s .pre .0) (rw (count l) (i .loop-test .taken)) (here-is i) (right i) (c .before .wires .given) (rw (v .0) at (w .work-gate .ensures)),
-    )
-
-same-length : tie.Need-same-length Inv-loop μ-loop
-same-length c = c .before .loop .inv .2 .kept
-
-same-length-2 : tie.Need-same-length-2 Inv-loop μ-loop
-same-length-2 c = c .before .loop .inv .1
-
-returns : tie.Need-returns Inv-loop μ-loop
-returns c =
-    let l = c .before in
-    let s = start l in
-    work-end (l .loop .inv .2) (omega (arith, count l, c .loop-test .left)) (s .pre .3 ∙ ap (λ (k : ℕ). (s .args .inputs + k) * s .args .p .n) (sym (count l)))
+returns : tie.Need-returns
+returns c = search needs
 
 pub work-spec : {M : Type 1} → statement M
 work-spec =
     tie.close
     (tie.spec
-    Inv-loop
-    μ-loop
-    loop-holds
-    mul-work-gate
-    shared-slice-read-work-gate
-    mul-work-gate-2
-    shared-slice-read-work-gate-2
-    mul-work-gate-3
-    shared-slice-read-work-gate-3
-    work-gate-requires
-    add-own
-    add-g
-    loop-less
-    loop-again
+    cast-n
+    sub-work-gates
+    part-c-start
+    part-c-end
+    sub-work-gates-2
+    part-d-start
+    part-d-end
+    work-gates-requires
     same-length
     same-length-2
     returns)

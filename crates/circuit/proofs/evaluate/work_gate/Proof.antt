@@ -1,50 +1,131 @@
 -- `evaluate::work_gate` writes what the gate makes over its own wire and leaves the others as found. A gate that is not wrong has its operands before its own
--- wire (`Placed`), and the wire that begins at j·n is row j of the buffer (`getD-cut`). Leans on what the three functions for the kinds ensure.
-use mathlib.Core.Path.{_≡_, sym, ap, ap₂, _∙_}
+-- wire (`Below`), so that they are ciphertexts (`Operand`), and the wire that begins at j·n is row j of the buffer (`getD-cut`). Leans on what `copy` and
+-- `make_wire` ensure.
+use mathlib.Core.Path.{_≡_, sym, ap, _∙_}
 use mathlib.Core.List.{List, [], _++_}
-use Prim.Native.Nat.{_+_, _*_, _≤_, _<_}
+use Prim.Native.Nat.{ℕ, _+_, _*_, _-_, _≤_}
 use native.Mathlib.Omega.{arith}
 use lib.IntN.{ℤ}
-use lib.ListN.{getD, take, drop}
+use lib.ListN.{length, take, drop}
 use borrow.Author.Needs.{needs}
 use Rattle.whole.specs.Lists.{cut, getD-cut, row-ends}
 use Rattle.scheme.specs.Arithmetic.{XOR, NOT, AND}
+use Rattle.regev.specs.Moduli.{params-modulus}
+use Rattle.circuit.specs.Circuits.{byKind}
 use Rattle.circuit.specs.Core.{gate}
-use Rattle.circuit.specs.Wires.{Placed, gate-placed, xor-gate, and-gate, not-gate}
+use Rattle.circuit.specs.Records.{Below, gate-below}
+use Rattle.circuit.specs.Wires.{gate-makes}
+use Rattle.circuit.proofs.Stretch.{Operand, operand, part-long, part-written}
 use Rattle.circuit.proofs.evaluate.work_gate.Statement.{statement}
 use Rattle.circuit.proofs.evaluate.work_gate.Tie as tie
 
 cast-n : tie.Need-cast-n
 cast-n c = search needs
 
-mul-at : tie.Need-mul-at
-mul-at c = search needs
-
 -- the operands' wires end at or before the gate's own begins
-placed : (s : tie.Start) → Placed (s .args .own) (gate (s .args .kind) (s .args .left) (s .args .right))
-placed s = gate-placed (s .args .own) (gate (s .args .kind) (s .args .left) (s .args .right)) (s .pre .2)
+below : (s : tie.Start) → Below (s .args .own) (gate (s .args .kind) (s .args .left) (s .args .right))
+below s = gate-below (s .args .own) (gate (s .args .kind) (s .args .left) (s .args .right)) (s .pre .2)
 
 left-ends : (s : tie.Start) → s .args .left * s .args .p .n + s .args .p .n ≤ s .args .own * s .args .p .n
-left-ends s = row-ends (s .args .p .n) (s .args .own) (s .args .left) (placed s .left)
+left-ends s = row-ends (s .args .p .n) (s .args .own) (s .args .left) (below s .left-below)
 
-right-ends : (s : tie.Start) → s .args .kind < 2 → s .args .right * s .args .p .n + s .args .p .n ≤ s .args .own * s .args .p .n
-right-ends s h = row-ends (s .args .p .n) (s .args .own) (s .args .right) (placed s .right h)
-
--- and are what the gate takes
-left-is : (s : tie.Start) → (let a = s .args in getD (cut (a .p .n) (a .own) (a .wires .now)) (a .left) [] ≡ take (a .p .n) (drop (a .left * a .p .n) (a .wires .now)))
-left-is s = getD-cut (s .args .p .n) (s .args .own) (s .args .wires .now) (s .args .left) [] (placed s .left)
-
-right-is : (s : tie.Start) → s .args .kind < 2
-    → (let a = s .args in getD (cut (a .p .n) (a .own) (a .wires .now)) (a .right) [] ≡ take (a .p .n) (drop (a .right * a .p .n) (a .wires .now)))
-right-is s h = getD-cut (s .args .p .n) (s .args .own) (s .args .wires .now) (s .args .right) [] (placed s .right h)
+right-ends : (s : tie.Start) → s .args .right * s .args .p .n + s .args .p .n ≤ s .args .own * s .args .p .n
+right-ends s = row-ends (s .args .p .n) (s .args .own) (s .args .right) (below s .right-below)
 
 mul-a : tie.Need-mul-a
 mul-a c = omega (arith, left-ends (c .before))
 
-work-not-requires : tie.Need-work-not-requires
-work-not-requires c κs =
-    let s = c .before .before .before .before in
-    (s .pre .0, left-ends s, s .pre .1, s .pre .3, s .pre .4)
+mul-b : tie.Need-mul-b
+mul-b c = omega (arith, right-ends (c .before))
+
+mul-at : tie.Need-mul-at
+mul-at c = search needs
+
+add-copy : tie.Need-add-copy
+add-copy c = let s = c .before in omega (arith, left-ends s, s .pre .1, s .good .1 .1 .1 .1 .1 .0 .0)
+
+mul-copy : tie.Need-mul-copy
+mul-copy c = let s = c .before in omega (arith, left-ends s, s .pre .1, s .good .1 .1 .1 .1 .1 .0 .0)
+
+sub-copy : tie.Need-sub-copy
+sub-copy c = search needs
+
+part-copy-start : tie.Need-part-copy-start
+part-copy-start c = search needs
+
+part-copy-end : tie.Need-part-copy-end
+part-copy-end c = let s = c .before .before in omega (arith, left-ends s, s .pre .1)
+
+copy-requires : tie.Need-copy-requires
+copy-requires c κs = search needs
+
+add-copy-2 : tie.Need-add-copy-2
+add-copy-2 c = let s = c .before .before .before .before .before .before in omega (arith, right-ends s, s .pre .1, s .good .1 .1 .1 .1 .1 .0 .0)
+
+mul-copy-2 : tie.Need-mul-copy-2
+mul-copy-2 c = let s = c .before .before .before .before .before .before in omega (arith, right-ends s, s .pre .1, s .good .1 .1 .1 .1 .1 .0 .0)
+
+sub-copy-2 : tie.Need-sub-copy-2
+sub-copy-2 c = search needs
+
+part-copy-start-2 : tie.Need-part-copy-start-2
+part-copy-start-2 c = search needs
+
+part-copy-end-2 : tie.Need-part-copy-end-2
+part-copy-end-2 c = let s = c .before .before .before .before .before .before .before in omega (arith, right-ends s, s .pre .1)
+
+copy-requires-2 : tie.Need-copy-requires-2
+copy-requires-2 c κs = search needs
+
+add-make-wire : tie.Need-add-make-wire
+add-make-wire c = search needs
+
+mul-make-wire : tie.Need-mul-make-wire
+mul-make-wire c = search needs
+
+sub-make-wire : tie.Need-sub-make-wire
+sub-make-wire c = search needs
+
+part-make-wire-start : tie.Need-part-make-wire-start
+part-make-wire-start c = search needs
+
+part-make-wire-end : tie.Need-part-make-wire-end
+part-make-wire-end c = search needs
+
+-- ---- the operands are copied
+
+abbrev start : tie.After-copy2 → tie.Start
+start c = c .before .before .before .before .before .before .before .before .before .before
+
+first : (c : tie.After-copy2) → (let s = start c .args in Operand (s .p) (s .left * s .p .n) (s .wires .now) (c .before .before .before .before .before .copy .last .1 .0))
+first c =
+    let s = start c in
+    operand (s .args .p) (s .args .left * s .args .p .n) (s .args .own * s .args .p .n) (s .args .wires .now) (c .before .before .before .before .before .copy .ensures) (left-ends s) (s .pre .1) (s .pre .6)
+
+second : (c : tie.After-copy2) → (let s = start c .args in Operand (s .p) (s .right * s .p .n) (s .wires .now) (c .copy2 .last .1 .0))
+second c =
+    let s = start c in
+    operand (s .args .p) (s .args .right * s .args .p .n) (s .args .own * s .args .p .n) (s .args .wires .now) (c .copy2 .ensures) (right-ends s) (s .pre .1) (s .pre .6)
+
+-- the stretch that is lent has n entries
+room : (s : tie.Start) → (let a = s .args in length (take (a .own * a .p .n + a .p .n - a .own * a .p .n) (drop (a .own * a .p .n) (a .wires .now))) ≡ a .p .n)
+room s = part-long (s .args .own * s .args .p .n) (s .args .p .n) (s .args .wires .now) (s .pre .1)
+
+make-wire-requires : tie.Need-make-wire-requires
+make-wire-requires c κs =
+    let d = c .before .before .before .before .before in
+    let s = start d in (
+      params-modulus (s .pre .0),
+      omega (arith, room s, s .pre .0 .n-low),
+      omega (arith, room s, s .pre .0 .n-high),
+      first d .long ∙ sym (room s),
+      second d .long ∙ sym (room s),
+      s .pre .5 ∙ ap (λ (k : ℕ). k * k) (sym (room s)),
+      s .pre .7 ∙ ap (λ (k : ℕ). k * (k * k)) (sym (room s)),
+      first d .inside,
+      second d .inside,
+      s .pre .8,
+    )
 
 same-length : tie.Need-same-length
 same-length c = search needs
@@ -52,89 +133,57 @@ same-length c = search needs
 same-length-2 : tie.Need-same-length-2
 same-length-2 c = search needs
 
--- what is written, around the gate's wire
-abbrev around : tie.Start → List ℤ → List ℤ
-around s w = let at = s .args .own * s .args .p .n in take at (s .args .wires .now) ++ (w ++ drop (at + s .args .p .n) (s .args .wires .now))
-
-returns : tie.Need-returns
-returns c =
-    let w = c .before .before in
-    let t = w .before .before .before in
-    let s = t .before .before in
-    let a = s .args in
-    w .work-not .ensures
-    ∙ ap (around s) (ap (NOT (a .p .q)) (sym (left-is s)) ∙ sym (not-gate (a .p) (a .key .now) (a .left) (a .right) (cut (a .p .n) (a .own) (a .wires .now)) (t .if1 .taken)))
-
--- past NOT the gate has two operands
-two : (c : tie.Else1) → c .before .before .args .kind < 2
-two c = omega (arith, placed (c .before .before) .known, c .if1 .left)
-
-mul-b : tie.Need-mul-b
-mul-b c = omega (arith, right-ends (c .before .before) (two c))
-
-work-and-requires : tie.Need-work-and-requires
-work-and-requires c κs =
-    let e = c .before .before .before in
-    let s = e .before .before in
-    (s .pre .0, left-ends s, right-ends s (two e), s .pre .1, s .pre .3, s .pre .4, s .pre .5, s .pre .6)
-
 same-length-3 : tie.Need-same-length-3
 same-length-3 c = search needs
 
 same-length-4 : tie.Need-same-length-4
 same-length-4 c = search needs
 
-returns-2 : tie.Need-returns-2
-returns-2 c =
-    let w = c .before .before in
-    let t = w .before .before .before in
-    let s = t .before .before .before in
+returns : tie.Need-returns
+returns c =
+    let d = c .before .before .before .before .before .before .before .before in
+    let s = start d in
     let a = s .args in
-    w .work-and .ensures
-    ∙ ap (around s)
-    (ap₂ (AND (a .p .n) (a .p .q) (a .key .now)) (sym (left-is s)) (sym (right-is s (two (t .before))))
-    ∙ sym (and-gate (a .p) (a .key .now) (a .left) (a .right) (cut (a .p .n) (a .own) (a .wires .now)) (t .if2 .taken)))
-
-work-xor-requires : tie.Need-work-xor-requires
-work-xor-requires c κs =
-    let e = c .before .before .before in
-    let s = e .before .before in
-    (s .pre .0, left-ends s, right-ends s (two e), s .pre .1, s .pre .3, s .pre .4)
-
-same-length-5 : tie.Need-same-length-5
-same-length-5 c = search needs
-
-same-length-6 : tie.Need-same-length-6
-same-length-6 c = search needs
-
-returns-3 : tie.Need-returns-3
-returns-3 c =
-    let w = c .before .before in
-    let t = w .before .before .before in
-    let s = t .before .before .before in
-    let a = s .args in
-    w .work-xor .ensures
-    ∙ ap (around s)
-    (ap₂ (XOR (a .p .q)) (sym (left-is s)) (sym (right-is s (two (t .before))))
-    ∙ sym (xor-gate (a .p) (a .key .now) (a .left) (a .right) (cut (a .p .n) (a .own) (a .wires .now)) (omega (arith, two (t .before), t .if2 .left))))
+    let n = a .p .n in
+    let at = a .own * n in
+    let x = d .before .before .before .before .before .copy .last .1 .0 in
+    let y = d .copy2 .last .1 .0 in
+    part-written at n (a .wires .now) (c .before .before .make-wire .last .1 .1 .1 .1 .1 .1 .0)
+    ∙ ap (λ (w : List ℤ). take at (a .wires .now) ++ (w ++ drop (at + n) (a .wires .now)))
+    (c .before .before .make-wire .ensures
+    ∙ ap (λ (k : ℕ). byKind (a .kind) (XOR (a .p .q) x y) (AND k (a .p .q) (a .key .now) x y) (NOT (a .p .q) x)) (room s)
+    ∙ gate-makes (a .p) (a .key .now) (a .kind) (a .left) (a .right) (cut n (a .own) (a .wires .now))
+    (first d .is ∙ sym (getD-cut n (a .own) (a .wires .now) (a .left) [] (below s .left-below)))
+    (second d .is ∙ sym (getD-cut n (a .own) (a .wires .now) (a .right) [] (below s .right-below))))
 
 pub work-gate-spec : {M : Type 1} → statement M
 work-gate-spec =
     tie.close
     (tie.spec
     cast-n
-    mul-at
     mul-a
-    work-not-requires
+    mul-b
+    mul-at
+    add-copy
+    mul-copy
+    sub-copy
+    part-copy-start
+    part-copy-end
+    copy-requires
+    add-copy-2
+    mul-copy-2
+    sub-copy-2
+    part-copy-start-2
+    part-copy-end-2
+    copy-requires-2
+    add-make-wire
+    mul-make-wire
+    sub-make-wire
+    part-make-wire-start
+    part-make-wire-end
+    make-wire-requires
     same-length
     same-length-2
-    returns
-    mul-b
-    work-and-requires
     same-length-3
     same-length-4
-    returns-2
-    work-xor-requires
-    same-length-5
-    same-length-6
-    returns-3)
+    returns)
