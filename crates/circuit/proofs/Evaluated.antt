@@ -13,7 +13,7 @@ use borrow.Author.Tests.{leb-true, ne-eqb, not-false}
 use Rattle.whole.specs.Tests.{and-right, or-left, or-right, or-neither}
 use Rattle.whole.specs.Lists.{nil, cons, all}
 use Rattle.refusal.specs.declared.Params.{Params}
-use Rattle.refusal.specs.First.{Row, firstOf, rising, someTrue, Clear, first-clear, first-under, first-front, first-rest}
+use Rattle.refusal.specs.First.{Row, firstOf, rising-row, rising-none, someTrue, Clear, first-clear, first-under, first-front, first-rest}
 use Rattle.refusal.specs.Parameters.{InRange, within, refused}
 use Rattle.scheme.specs.Arithmetic.{isResidue}
 use Rattle.scheme.specs.Calls.{differs}
@@ -21,22 +21,8 @@ use Rattle.scheme.specs.Passed.{params-in-range, length-is, entries-inside}
 use Rattle.circuit.specs.declared.Gate.{Gate}
 use Rattle.circuit.specs.Circuits.{badCounts, wrongGates, gateRows, placeOf}
 use Rattle.circuit.specs.Ready.{EvaluateReady}
+use Rattle.circuit.specs.Answers.{place-early}
 use Rattle.circuit.specs.Core.{records, uneven, planCoreRows, planCoreAnswer, planCoreBounds, evaluateCoreRows, evaluateCoreAnswer, evaluateCoreBounds}
-
--- ---- refusals 2, and places
-
--- the counts are within their ranges where 2 does not apply
-pub counts-within : (inputs gates : ℕ) → badCounts inputs gates ≡ false → (inputs ≤ 1024) × (gates ≤ 4096)
-unfolding badCounts
-counts-within inputs gates e = (
-  leb-true inputs 1024 (and-right (leb 1 inputs) (leb inputs 1024) (not-false _ (or-left (not (within 1 1024 inputs)) (not (within 1 4096 gates)) e))),
-  leb-true gates 4096 (and-right (leb 1 gates) (leb gates 4096) (not-false _ (or-right (not (within 1 1024 inputs)) (not (within 1 4096 gates)) e))),
-)
-
--- the place is 0 for the numbers below 9
-pub place-none : (p : Params) (inputs : ℕ) (gs : List Gate) (Bs : List ℕ) (k : ℕ) → k < 9 → placeOf p inputs gs Bs k ≡ 0
-unfolding placeOf
-place-none p inputs gs Bs k h = rw (ne-eqb k 9 (λ e. omega arith), ne-eqb k 10 (λ e. omega arith))
 
 -- ---- the two stages
 
@@ -53,13 +39,13 @@ module _ (p : Params) (inputs : ℕ) (ks ls rs : List ℕ) (wires : List ℤ) (B
   unfolding evaluateCoreAnswer evaluateCoreRows
   early-answer {r} e h =
       let small : r < 9 = rw e (first-under (omega arith) (cons (omega arith) (cons (omega arith) (cons (omega arith) (cons (omega arith) nil))))) in
-      rw (early-number e h) (ap (refused r) (sym (place-none p inputs (records ks ls rs) (take inputs Bs) r small)))
+      rw (early-number e h) (ap (refused r) (sym (place-early p inputs (records ks ls rs) (take inputs Bs) r small)))
 
   -- it does not: what is left is planning's
   pub late-number : firstOf (take 4 rows) ≡ 0 → firstOf rows ≡ firstOf (planCoreRows p inputs ks ls rs Bs)
-  unfolding evaluateCoreRows planCoreRows rising
+  unfolding evaluateCoreRows planCoreRows
   late-number e =
-      let t : Clear (take 4 rows) = first-clear (take 4 rows) 0 refl e in
+      let t : Clear (take 4 rows) = first-clear (take 4 rows) 0 (simp (rising-row, rising-none)) e in
       let planned : List Row = planCoreRows p inputs ks ls rs Bs in
       let u : Clear (take 3 planned) = (t .0, (t .1 .0, (or-neither {a = uneven ks ls rs} {b = differs (length Bs) (inputs + length ks)} (search (or-left, t .1 .1 .0) depth 8) (search (or-left, or-right, t .1 .1 .0) depth 8), tt))) in
       first-rest (take 4 rows) (drop 4 rows) t ∙ sym (first-rest (take 3 planned) (drop 3 planned) u)
@@ -74,9 +60,9 @@ module _ (p : Params) (inputs : ℕ) (ks ls rs : List ℕ) (wires : List ℤ) (B
 
   -- neither refuses
   pub evaluate-ready : firstOf rows ≡ 0 → EvaluateReady p inputs ks ls rs wires W scratch
-  unfolding evaluateCoreRows uneven gateRows rising
+  unfolding evaluateCoreRows uneven gateRows
   evaluate-ready e =
-      let t : Clear rows = first-clear rows 0 refl e in
+      let t : Clear rows = first-clear rows 0 (simp (rising-row, rising-none)) e in
       let lengths = t .1 .1 .0 in
       record {
         range = params-in-range p (t .0);

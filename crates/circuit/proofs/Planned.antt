@@ -10,9 +10,9 @@ use lib.ListN.{length, take}
 use lib.Seq.{length-take-le}
 use borrow.Author.Tests.{not-false}
 use Rattle.whole.specs.Tests.{or-left, or-right}
-use Rattle.whole.specs.Lists.{all}
+use Rattle.whole.specs.Lists.{nil, cons, all}
 use Rattle.refusal.specs.declared.Params.{Params}
-use Rattle.refusal.specs.First.{firstOf, firstTrue, rising, Clear, first-clear, first-below, someTrue, none-first, doneOr-done, doneOr-refused}
+use Rattle.refusal.specs.First.{firstOf, firstTrue, rising-row, rising-none, Clear, first-clear, first-under, someTrue, none-first, doneOr-done, doneOr-refused}
 use Rattle.refusal.specs.Parameters.{refused, InRange}
 use Rattle.scheme.specs.Arithmetic.{fits}
 use Rattle.scheme.specs.Passed.{params-in-range, length-is}
@@ -35,13 +35,13 @@ pub record PlanReady (p : Params) (inputs : ℕ) (ks ls rs Bs : List ℕ) : Type
 module _ (p : Params) (inputs : ℕ) (ks ls rs Bs : List ℕ) where
   -- the numbers of the rows in front are below those for the gates
   pub plan-early : firstOf (take 4 (planCoreRows p inputs ks ls rs Bs)) < 9
-  unfolding planCoreRows all
-  plan-early = first-below 9 (take 4 (planCoreRows p inputs ks ls rs Bs)) (omega arith) refl
+  unfolding planCoreRows
+  plan-early = first-under (omega arith) (cons (omega arith) (cons (omega arith) (cons (omega arith) (cons (omega arith) nil))))
 
   pub plan-ready : firstOf (take 4 (planCoreRows p inputs ks ls rs Bs)) ≡ 0 → PlanReady p inputs ks ls rs Bs
-  unfolding planCoreRows uneven rising
+  unfolding planCoreRows uneven
   plan-ready e =
-      let t : Clear (take 4 (planCoreRows p inputs ks ls rs Bs)) = first-clear (take 4 (planCoreRows p inputs ks ls rs Bs)) 0 refl e in
+      let t : Clear (take 4 (planCoreRows p inputs ks ls rs Bs)) = first-clear (take 4 (planCoreRows p inputs ks ls rs Bs)) 0 (simp (rising-row, rising-none)) e in
       record {
         clear = t;
         range = params-in-range p (t .0);

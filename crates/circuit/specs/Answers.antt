@@ -11,7 +11,7 @@ use lib.ListN.{length}
 use borrow.Author.Tests.{ne-eqb, leb-true, not-false}
 use Rattle.whole.specs.Tests.{and-right, or-left, or-right}
 use Rattle.refusal.specs.declared.Params.{Params}
-use Rattle.refusal.specs.First.{Row, firstOf, firstTrue, Clear, first-front, first-rest, some-first, none-first}
+use Rattle.refusal.specs.First.{Row, firstOf, firstTrue, Clear, first-row, first-none, first-front, first-rest, some-first, none-first}
 use Rattle.refusal.specs.Parameters.{within, refused}
 use Rattle.circuit.specs.declared.Gate.{Gate}
 use Rattle.circuit.specs.Circuits.{wrongGates, overGates, badCounts, gateRows, placeOf}
@@ -46,25 +46,29 @@ module _ (p : Params) (inputs : ℕ) (gates : List Gate) (Bs : List ℕ) where
 
   module _ (front : List Row) (clear : Clear front) where
     pub number-wrong : firstTrue (wrongGates inputs gates) < length gates → firstOf (rows front) ≡ 9
-    unfolding firstOf gateRows
+    unfolding gateRows
     number-wrong h =
         first-rest front (gateRows p inputs gates Bs) clear
-        ∙ rw (some-first (wrongGates inputs gates) (omega (arith, length-wrongGates inputs gates)))
+        ∙ simp (first-row, first-none, some-first (wrongGates inputs gates) (omega (arith, length-wrongGates inputs gates)))
 
     pub number-over : length gates ≤ firstTrue (wrongGates inputs gates) → firstTrue (overGates p gates Bs) < length gates → firstOf (rows front) ≡ 10
-    unfolding firstOf gateRows
+    unfolding gateRows
     number-over g h =
         first-rest front (gateRows p inputs gates Bs) clear
-        ∙ rw (
+        ∙ simp (
+          first-row,
+          first-none,
           none-first (wrongGates inputs gates) (omega (arith, length-wrongGates inputs gates)),
           some-first (overGates p gates Bs) (omega (arith, length-overGates p gates Bs)),
         )
 
     pub number-done : length gates ≤ firstTrue (wrongGates inputs gates) → length gates ≤ firstTrue (overGates p gates Bs) → firstOf (rows front) ≡ 0
-    unfolding firstOf gateRows
+    unfolding gateRows
     number-done g h =
         first-rest front (gateRows p inputs gates Bs) clear
-        ∙ rw (
+        ∙ simp (
+          first-row,
+          first-none,
           none-first (wrongGates inputs gates) (omega (arith, length-wrongGates inputs gates)),
           none-first (overGates p gates Bs) (omega (arith, length-overGates p gates Bs)),
         )

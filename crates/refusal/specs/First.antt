@@ -48,6 +48,15 @@ unfoldable pub rising : ℕ → List Row → Bool
 rising k [] = true
 rising k (r ∷ rows) = ltb k (r .number) && rising (r .number) rows
 
+-- one row after the other
+pub rising-row : (k m : ℕ) (t : Bool) (rows : List Row) → rising k (row m t ∷ rows) ≡ (ltb k m && rising m rows)
+unfolding rising
+rising-row k m t rows = refl
+
+pub rising-none : (k : ℕ) → rising k [] ≡ true
+unfolding rising
+rising-none k = refl
+
 -- some row has the number k and applies
 abbrev pub Applies : List Row → ℕ → Type 0
 Applies [] k = ⊥
@@ -114,6 +123,10 @@ pub first-row : (k : ℕ) (t : Bool) (rows : List Row) → firstOf (row k t ∷ 
 unfolding firstOf
 first-row k t rows = refl
 
+pub first-none : firstOf [] ≡ 0
+unfolding firstOf
+first-none = refl
+
 pub first-last : (k : ℕ) (t : Bool) → firstOf (row k t ∷ []) ≡ cond t k 0
 unfolding firstOf
 first-last k t = refl
@@ -143,16 +156,6 @@ pub first-rest : (front rest : List Row) → Clear front → firstOf (front ++ r
 unfolding firstOf
 first-rest [] rest clear = refl
 first-rest (r ∷ front) rest clear = rw (clear .0) (first-rest front rest (clear .1))
-
--- the number given is below m where every row's is
-pub first-below : (m : ℕ) (rows : List Row) → 0 < m → all (λ r. ltb (r .number) m) rows ≡ true → firstOf rows < m
-unfolding firstOf all
-first-below m [] h e = h
-first-below m (r ∷ rows) h e = by-test (r .applies) (ltb-true (r .number) m (and-left (ltb (r .number) m) (all (λ r. ltb (r .number) m) rows) e)) (first-below m rows h (and-right (ltb (r .number) m) (all (λ r. ltb (r .number) m) rows) e))
-  where
-    by-test : (t : Bool) → r .number < m → firstOf rows < m → cond t (r .number) (firstOf rows) < m
-    by-test true here later = here
-    by-test false here later = later
 
 pub doneOr-done : {A : Type 0} {k : ℕ} (a z : A) → k ≡ 0 → doneOr k a z ≡ a
 unfolding doneOr
@@ -214,8 +217,6 @@ unfolding firstTrue someTrue
 none-first [] h = refl
 none-first (true ∷ ts) h = absurd (not-suc-le-zero h)
 none-first (false ∷ ts) h = none-first ts (le-of-suc-le-suc h)
-
--- where none is, each is false
 
 -- where none is true the test at i is not
 pub none-true : (ts : List Bool) (i : ℕ) → someTrue ts ≡ false → getD ts i false ≡ false

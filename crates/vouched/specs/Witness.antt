@@ -7,7 +7,7 @@ use native.Mathlib.Nat.{le-refl}
 use native.Mathlib.Omega.{arith}
 use lib.Dec.{leb}
 use lib.IntN.{ℤ, pos}
-use lib.ListN.{length, getD}
+use lib.ListN.{length, getD, replicate}
 use borrow.Author.Tests.{leb-true}
 use Rattle.whole.specs.Tests.{eqZ}
 use Rattle.whole.specs.Round.{round}
@@ -15,7 +15,8 @@ use Rattle.whole.specs.Centred.{centred, rest}
 use Rattle.whole.specs.Lists.{all, all-each, tabulate, grid, cut}
 use Rattle.whole.specs.Inner.{inner, sizes, column}
 use Rattle.refusal.specs.declared.Params.{Params}
-use Rattle.refusal.specs.First.{firstOf, doneOr-done, someTrue, firstTrue}
+use Rattle.refusal.specs.declared.Refusal.{Refusal}
+use Rattle.refusal.specs.First.{firstOf, doneOr, doneOr-done, someTrue, firstTrue}
 use Rattle.refusal.specs.Parameters.{params, inRange, sheet, sheets, sheetTable, refused}
 use Rattle.scheme.specs.Arithmetic.{isResidue, isKey, noise, XOR, XOR-bound, NOT, NOT-bound, tensorEntry, tensor, keyRows, maskColumn, rowZeroEntry, switchingKey, switchEntry, switch, AND, AND-bound, fits}
 use Rattle.scheme.specs.Calls.{badParams, differs, badKey, outside, exceeds, overBudget, keyCheckRows}
@@ -23,7 +24,7 @@ use Rattle.scheme.specs.Passed.{errors-within}
 use Rattle.scheme.specs.Figures.{−, pair, four}
 use Rattle.noise.specs.Built.{MadeFor, made→built}
 use Rattle.circuit.specs.declared.Gate.{Gate}
-use Rattle.circuit.specs.Circuits.{byKind, gateBound, gateWire, gateBit, wrongGate, run, wrongGates, boundsOf, overGates, badCounts, gateRows, placeOf, planRows, planAnswer, evaluateRows, wiresOf, evaluateWires, evaluateBounds, bitsOf}
+use Rattle.circuit.specs.Circuits.{byKind, gateBound, gateWire, gateBit, wrongGate, run, wrongGates, boundsOf, overGates, badCounts, gateRows, placeOf, planRows, planAnswer, evaluateRows, wiresOf, evaluateWires, evaluateBounds, evaluateScratch, bitsOf}
 use Rattle.circuit.specs.Core.{gate}
 use Rattle.vouched.specs.Demand3.{wireAt, Premises, Vouched, demand-3}
 
@@ -111,8 +112,30 @@ pub and-vouched : Vouched p s (pair (pos 19) (pos 11)) 1 9
 and-vouched =
     rw (wires-left, bits-made, bounds-left) at (demand-3 p 2 gates wires Bs W scratch s bits premises done 2 (omega arith))
 
--- ---- nor is refusal empty: on sheet 0 an AND of bounds 1 and 1 would have the bound 9, so a circuit is refused at the gate that is one
+pub scratch-left : evaluateScratch p 2 gates wires Bs W scratch ≡ four (pos 0) (pos 0) (pos 0) (pos 0)
+unfolding evaluateScratch
+scratch-left = doneOr-done _ scratch done
 
-pub ten-given : planAnswer (sheet 0) 2 (gate 0 0 1 ∷ gate 1 0 1 ∷ []) (1 ∷ 1 ∷ 7 ∷ 7 ∷ []) ≡ refused 10 1
+-- ---- nor is refusal empty: on sheet 0 an AND of bounds 1 and 1 would have the bound 9, which does not fit
+
+abbrev XOR01 : Gate
+XOR01 = gate 0 0 1
+
+abbrev AND01 : Gate
+AND01 = gate 1 0 1
+
+abbrev planned : List Gate → Refusal
+planned gs = planAnswer (sheet 0) 2 gs (1 ∷ 1 ∷ 7 ∷ 7 ∷ [])
+
+-- the last gate alone is over; of two that are the first is named; a wrong gate is named before one that is over
+pub plans-refused : planned (XOR01 ∷ AND01 ∷ []) ∷ planned (AND01 ∷ AND01 ∷ []) ∷ planned (AND01 ∷ gate 2 0 1 ∷ []) ∷ [] ≡ refused 10 1 ∷ refused 10 0 ∷ refused 9 1 ∷ []
 unfolding firstOf firstTrue someTrue all badParams inRange sheet sheets sheetTable badCounts differs fits overBudget byKind gateBound XOR-bound AND-bound wrongGate run wrongGates boundsOf overGates gateRows placeOf planRows planAnswer
-ten-given = refl
+plans-refused = refl
+
+-- evaluation of the first of these writes nothing, also not the XOR, whose bound fits
+abbrev found : List ℤ
+found = pos 6 ∷ pos 3 ∷ pos 6 ∷ pos 3 ∷ pos 9 ∷ pos 9 ∷ pos 9 ∷ pos 9 ∷ []
+
+pub nothing-written : evaluateWires (sheet 0) 2 (XOR01 ∷ AND01 ∷ []) found (1 ∷ 1 ∷ 7 ∷ 7 ∷ []) (replicate 8 (pos 0)) scratch ≡ found
+unfolding firstOf firstTrue someTrue all badParams inRange sheet sheets sheetTable badCounts differs outside isResidue fits overBudget byKind gateBound XOR-bound AND-bound wrongGate run wrongGates boundsOf overGates gateRows evaluateRows evaluateWires doneOr
+nothing-written = refl

@@ -16,7 +16,7 @@ use Rattle.scheme.specs.Passed.{params-tested, answered-range, length-is}
 use Rattle.regev.specs.Moduli.{params-modulus}
 use Rattle.circuit.specs.Circuits.{badCounts}
 use Rattle.circuit.specs.Core.{uneven, evaluateCoreRows}
-use Rattle.circuit.proofs.Evaluated.{counts-within}
+use Rattle.circuit.specs.Answers.{inputs-within, gates-within}
 use Rattle.circuit.proofs.evaluate.evaluate_number.Statement.{statement}
 use Rattle.circuit.proofs.evaluate.evaluate_number.Tie as tie
 
@@ -54,8 +54,7 @@ two-passed c = sym (c .before .are-bad-counts .ensures) ∙ c .if2 .left
 total-fits : (c : tie.Else2) → (let s = start c .args in (s .inputs + length (s .kinds .now)) * s .p .n ≤ 5242880)
 total-fits c =
     let s = start c .args in
-    let counts = counts-within (s .inputs) (length (s .kinds .now)) (two-passed c) in
-    let few : s .inputs + length (s .kinds .now) ≤ 5120 = omega (arith, counts .0, counts .1) in
+    let few : s .inputs + length (s .kinds .now) ≤ 5120 = omega (arith, inputs-within (s .inputs) _ (two-passed c), gates-within (s .inputs) _ (two-passed c)) in
     mul-le-mul few (range (c .before .before) .n-high)
 
 square-fits : (c : tie.Else2) → (let s = start c .args in s .p .n * s .p .n ≤ 1048576)

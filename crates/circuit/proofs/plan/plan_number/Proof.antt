@@ -9,7 +9,7 @@ use lib.ListN.{length}
 use borrow.Author.Tests.{eqb-true, not-false}
 use borrow.Author.Needs.{needs}
 use Rattle.whole.specs.Tests.{or-right}
-use Rattle.refusal.specs.First.{firstOf}
+use Rattle.refusal.specs.First.{first-row, first-none}
 use Rattle.scheme.specs.Passed.{params-is, differs-is}
 use Rattle.circuit.specs.Core.{uneven, planCoreRows}
 use Rattle.circuit.proofs.plan.plan_number.Statement.{statement}
@@ -19,27 +19,28 @@ in-range-requires : tie.Need-in-range-requires
 in-range-requires c κs = search needs
 
 returns : tie.Need-returns
-unfolding firstOf planCoreRows
-returns c = simp (params-is, sym (c .before .in-range .ensures), c .if1 .taken)
+unfolding planCoreRows
+returns c = simp (first-row, params-is, sym (c .before .in-range .ensures), c .if1 .taken)
 
 are-bad-counts-requires : tie.Need-are-bad-counts-requires
 are-bad-counts-requires c κs = search needs
 
 returns-2 : tie.Need-returns-2
-unfolding firstOf planCoreRows
+unfolding planCoreRows
 returns-2 c =
     let e = c .before .before in
-    simp (params-is, sym (e .before .in-range .ensures), e .if1 .left, sym (c .before .are-bad-counts .ensures), c .if2 .taken)
+    simp (first-row, params-is, sym (e .before .in-range .ensures), e .if1 .left, sym (c .before .are-bad-counts .ensures), c .if2 .taken)
 
 add-if3 : tie.Need-add-if3
 add-if3 c = search needs
 
 returns-3 : tie.Need-returns-3
-unfolding firstOf planCoreRows uneven
+unfolding planCoreRows uneven
 returns-3 c =
     let b = c .before .before in
     let e = b .before in
     simp (
+      first-row,
       params-is,
       sym (e .before .in-range .ensures),
       e .if1 .left,
@@ -76,12 +77,14 @@ row-requires : tie.Need-row-requires
 row-requires c κs = search needs
 
 returns-4 : tie.Need-returns-4
-unfolding firstOf planCoreRows uneven
+unfolding planCoreRows uneven
 returns-4 c =
     let l = c .before .before .before in
     let b = l .before .before in
     let e = b .before in
     simp (
+      first-row,
+      first-none,
       c .row .ensures,
       c .before .is-some-over .ensures,
       params-is,
