@@ -13,9 +13,9 @@ use Rattle.circuit.specs.Circuits.{byKind, gateBound, gateBit, wrongGate
 abbrev gate : ℕ → ℕ → ℕ → Gate
 gate k l r = record { kind = k; left = l; right = r }
 
--- wire 2 is wire 0 AND wire 1, wire 3 is NOT wire 2, wire 4 is wire 0 XOR wire 3
+-- wire 2 is wire 0 AND wire 1, wire 3 is NOT wire 2, wire 4 is wire 3 XOR wire 0
 abbrev exampleGates : List Gate
-exampleGates = gate 1 0 1 ∷ gate 2 2 0 ∷ gate 0 0 3 ∷ []
+exampleGates = gate 1 0 1 ∷ gate 2 2 0 ∷ gate 0 3 0 ∷ []
 
 -- the gates' bounds arrive with anything in them
 pub example-planned : planBounds (sheet 1) 2 exampleGates (2 ∷ 2 ∷ 7 ∷ 4294967295 ∷ 0 ∷ []) ≡ 2 ∷ 2 ∷ 34 ∷ 34 ∷ 36 ∷ []

@@ -38,9 +38,9 @@ s = pair (pos 1) (pos 1)
 abbrev W : List ℤ
 W = − 35 ∷ pos 164 ∷ pos 57 ∷ pos 63 ∷ four (pos 100) (− 100) (pos 7) (pos 0)
 
--- wire 2 is wire 0 AND wire 1, wire 3 is NOT wire 2, wire 4 is wire 0 XOR wire 3
+-- wire 2 is wire 0 AND wire 1, wire 3 is NOT wire 2, wire 4 is wire 3 XOR wire 0
 abbrev gates : List Gate
-gates = gate 1 0 1 ∷ gate 2 2 0 ∷ gate 0 0 3 ∷ []
+gates = gate 1 0 1 ∷ gate 2 2 0 ∷ gate 0 3 0 ∷ []
 
 -- the inputs are encryptions of 1 with masks 3 and -20, errors 1 and -1; the rest of each buffer may hold anything
 abbrev wires : List ℤ
