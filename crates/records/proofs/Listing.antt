@@ -1,14 +1,18 @@
 -- The invariant of `list` and its laws: the fields of the first i gates are listed, the rest of each list is as found.
 use mathlib.Core.Path.{_≡_, refl, sym, ap, _∙_}
-use mathlib.Core.List.{List}
-use Prim.Native.Nat.{ℕ, _+_, _≤_, _<_}
+use mathlib.Core.List.{List, _++_}
+use Prim.Native.Nat.{ℕ, _+_, _-_, _≤_, _<_}
+use native.Mathlib.Nat.{sub-zero}
 use native.Mathlib.Omega.{arith}
-use lib.ListN.{length, getD, take, set}
+use lib.ListN.{length, getD, take, set, length-take}
 use lib.Seq.{length-take-le, getD-take}
-use Rattle.whole.specs.Lists.{Filled, fill-start, fill-step, fill-end, getD-map}
+use Rattle.whole.specs.Lists.{Filled, fill-start, fill-step, getD-map, put-first, put-holds}
+use Rattle.refusal.specs.declared.Params.{Params}
 use Rattle.circuit.specs.declared.Gate.{Gate}
-use Rattle.circuit.specs.Core.{gate}
-use Rattle.records.specs.First.{kindsOf, leftsOf, rightsOf, length-kinds, length-lefts, length-rights}
+use Rattle.circuit.specs.Circuits.{planAnswer, planBounds}
+use Rattle.circuit.specs.Core.{planCoreAnswer, planCoreBounds}
+use Rattle.circuit.specs.Agree.{plan-answer-agrees, plan-bounds-agrees}
+use Rattle.records.specs.First.{kindsOf, leftsOf, rightsOf, length-kinds, length-lefts, length-rights, records-fields}
 
 pub record Listed (first : List Gate) (kinds₀ lefts₀ rights₀ kinds lefts rights : List ℕ) (i : ℕ) : Type 0 where
   pub few : length kinds₀ ≤ length first
@@ -61,3 +65,45 @@ module _ (first : List Gate) (kinds₀ lefts₀ rights₀ : List ℕ) where
         lefts-so-far = fill-step (f .lefts-so-far) _ 0 (omega arith) (getD-lefts i (f .few) l z);
         rights-so-far = fill-step (f .rights-so-far) _ 0 (omega arith) (getD-rights i (f .few) l z);
       }
+
+-- ---- lists in the first part of an array
+
+pub first-few : (n : ℕ) (found : List ℕ) → n ≤ 4097 → length (take (n - 0) found) ≤ 4097
+first-few n found h = simp length-take (omega arith)
+
+-- the fields of m gates, put into the first n entries of what was found, to be lent again
+pub record Lent (fields : List Gate → List ℕ) (first : List Gate) (n m : ℕ) (new : List ℕ) : Type 0 where
+  pub holds : (rest : List ℕ) → n ≤ length (new ++ rest)
+  pub again : (rest : List ℕ) → take (n - 0) (new ++ rest) ≡ fields (take m first)
+
+pub lent : {fields : List Gate → List ℕ} {first : List Gate} {n m : ℕ} (found new : List ℕ) → ((gates : List Gate) → length (fields gates) ≡ length gates)
+    → n ≡ m → m ≤ length first → m ≤ length found → new ≡ fields (take (length (take (n - 0) found)) first) → Lent fields first n m new
+lent {fields} {first} {n} {m} found new keeps e h k f =
+    let room : length (take (n - 0) found) ≡ m = rw sub-zero (length-take-le n found (omega arith) ∙ e) in
+    let g : new ≡ fields (take m first) = rw room at f in
+    let l : length new ≡ n = ap length g ∙ keeps (take m first) ∙ length-take-le m first h ∙ sym e in
+    record { holds = λ rest. put-holds n new rest l; again = λ rest. put-first n new rest l ∙ g }
+
+-- ---- the core, of the fields of gates
+
+module _ (p : Params) (inputs : ℕ) (gates : List Gate) where
+  abbrev ks : List ℕ
+  ks = kindsOf gates
+
+  abbrev ls : List ℕ
+  ls = leftsOf gates
+
+  abbrev rs : List ℕ
+  rs = rightsOf gates
+
+  lefts-long : length ls ≡ length ks
+  lefts-long = length-lefts gates ∙ sym (length-kinds gates)
+
+  rights-long : length rs ≡ length ks
+  rights-long = length-rights gates ∙ sym (length-kinds gates)
+
+  pub plan-answer-fields : (Bs : List ℕ) → planCoreAnswer p inputs ks ls rs Bs ≡ planAnswer p inputs gates Bs
+  plan-answer-fields Bs = plan-answer-agrees p inputs ks ls rs lefts-long rights-long Bs ∙ ap (λ (gs : List Gate). planAnswer p inputs gs Bs) (records-fields gates)
+
+  pub plan-bounds-fields : (Bs : List ℕ) → planCoreBounds p inputs ks ls rs Bs ≡ planBounds p inputs gates Bs
+  plan-bounds-fields Bs = plan-bounds-agrees p inputs ks ls rs lefts-long rights-long Bs ∙ ap (λ (gs : List Gate). planBounds p inputs gs Bs) (records-fields gates)

@@ -2,3 +2,4 @@
 // works the lists.
 pub mod first;
 pub mod lists;
+pub mod plan;
