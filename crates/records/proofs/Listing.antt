@@ -4,14 +4,15 @@ use mathlib.Core.List.{List, _++_}
 use Prim.Native.Nat.{ℕ, _+_, _-_, _≤_, _<_}
 use native.Mathlib.Nat.{sub-zero}
 use native.Mathlib.Omega.{arith}
+use lib.IntN.{ℤ}
 use lib.ListN.{length, getD, take, set, length-take}
 use lib.Seq.{length-take-le, getD-take}
 use Rattle.whole.specs.Lists.{Filled, fill-start, fill-step, getD-map, put-first, put-holds}
 use Rattle.refusal.specs.declared.Params.{Params}
 use Rattle.circuit.specs.declared.Gate.{Gate}
-use Rattle.circuit.specs.Circuits.{planAnswer, planBounds}
-use Rattle.circuit.specs.Core.{planCoreAnswer, planCoreBounds}
-use Rattle.circuit.specs.Agree.{plan-answer-agrees, plan-bounds-agrees}
+use Rattle.circuit.specs.Circuits.{planAnswer, planBounds, evaluateAnswer, evaluateWires, evaluateBounds, evaluateScratch}
+use Rattle.circuit.specs.Core.{planCoreAnswer, planCoreBounds, evaluateCoreAnswer, evaluateCoreWires, evaluateCoreBounds, evaluateCoreScratch}
+use Rattle.circuit.specs.Agree.{plan-answer-agrees, plan-bounds-agrees, evaluate-answer-agrees, evaluate-wires-agrees, evaluate-bounds-agrees, evaluate-scratch-agrees}
 use Rattle.records.specs.First.{kindsOf, leftsOf, rightsOf, length-kinds, length-lefts, length-rights, records-fields}
 
 pub record Listed (first : List Gate) (kinds₀ lefts₀ rights₀ kinds lefts rights : List ℕ) (i : ℕ) : Type 0 where
@@ -107,3 +108,20 @@ module _ (p : Params) (inputs : ℕ) (gates : List Gate) where
 
   pub plan-bounds-fields : (Bs : List ℕ) → planCoreBounds p inputs ks ls rs Bs ≡ planBounds p inputs gates Bs
   plan-bounds-fields Bs = plan-bounds-agrees p inputs ks ls rs lefts-long rights-long Bs ∙ ap (λ (gs : List Gate). planBounds p inputs gs Bs) (records-fields gates)
+
+  pub evaluate-answer-fields : (wires : List ℤ) (Bs : List ℕ) (W : List ℤ) (scratch : ℕ) → evaluateCoreAnswer p inputs ks ls rs wires Bs W scratch ≡ evaluateAnswer p inputs gates wires Bs W scratch
+  evaluate-answer-fields wires Bs W scratch =
+      evaluate-answer-agrees p inputs ks ls rs lefts-long rights-long wires Bs W scratch ∙ ap (λ (gs : List Gate). evaluateAnswer p inputs gs wires Bs W scratch) (records-fields gates)
+
+  module _ (wires : List ℤ) (Bs : List ℕ) (W scratch : List ℤ) where
+    pub evaluate-wires-fields : evaluateCoreWires p inputs ks ls rs wires Bs W scratch ≡ evaluateWires p inputs gates wires Bs W scratch
+    evaluate-wires-fields =
+        evaluate-wires-agrees p inputs ks ls rs lefts-long rights-long wires Bs W scratch ∙ ap (λ (gs : List Gate). evaluateWires p inputs gs wires Bs W scratch) (records-fields gates)
+
+    pub evaluate-bounds-fields : evaluateCoreBounds p inputs ks ls rs wires Bs W scratch ≡ evaluateBounds p inputs gates wires Bs W scratch
+    evaluate-bounds-fields =
+        evaluate-bounds-agrees p inputs ks ls rs lefts-long rights-long wires Bs W scratch ∙ ap (λ (gs : List Gate). evaluateBounds p inputs gs wires Bs W scratch) (records-fields gates)
+
+    pub evaluate-scratch-fields : evaluateCoreScratch p inputs ks ls rs wires Bs W scratch ≡ evaluateScratch p inputs gates wires Bs W scratch
+    evaluate-scratch-fields =
+        evaluate-scratch-agrees p inputs ks ls rs lefts-long rights-long wires Bs W scratch ∙ ap (λ (gs : List Gate). evaluateScratch p inputs gs wires Bs W scratch) (records-fields gates)
