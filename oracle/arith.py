@@ -49,6 +49,21 @@ def more_than_a_quarter(d, q):
     return 4 * abs(d) > q
 
 
+def first_of(places):
+    """The first of the offending gates, or None where there is none."""
+    return next(places, None)
+
+
+def every_gate(inputs, g, gates):
+    """Whether gate g of a circuit counts against the budget: every gate does, used later or not."""
+    return True
+
+
+def all_zero(scratch):
+    """What scratch holds after a call that is done."""
+    return [0] * len(scratch)
+
+
 class Rules(NamedTuple):
     """The pieces that a planted fault may replace. The defaults are the paper's."""
 
@@ -57,6 +72,9 @@ class Rules(NamedTuple):
     switch_entry: Callable = round_after_sum
     and_bound: Callable = and_bound
     reads_one: Callable = more_than_a_quarter
+    place: Callable = first_of
+    counts: Callable = every_gate
+    scratch: Callable = all_zero
 
 
 PAPER = Rules()

@@ -211,5 +211,5 @@ def and_gate(
     if number:
         return Bounded(number)
     result[:] = definitions.and_of(p, left, right, switching_key, rules)
-    scratch[:] = [0] * len(scratch)
+    scratch[:] = rules.scratch(scratch)
     return Bounded(0, 0, rules.and_bound(p, left_bound, right_bound))

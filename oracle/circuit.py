@@ -43,12 +43,9 @@ def is_right(gate, own_wire):
     return 0 <= right < own_wire
 
 
-def first_wrong_gate(inputs, gates):
-    """The first gate that is wrong, or None."""
-    for g, gate in enumerate(gates):
-        if not is_right(gate, inputs + g):
-            return g
-    return None
+def wrong_gates(inputs, gates):
+    """The gates that are wrong, one after the other."""
+    return (g for g, gate in enumerate(gates) if not is_right(gate, inputs + g))
 
 
 def gate_bound(p, gate, bounds, rules):
@@ -59,6 +56,20 @@ def gate_bound(p, gate, bounds, rules):
     if kind == XOR:
         return definitions.xor_bound(bounds[left], bounds[right])
     return rules.and_bound(p, bounds[left], bounds[right])
+
+
+def over_gates(p, gates, bounds, rules):
+    """The gates whose bound does not fit, one after the other.
+
+    The bounds, which are the inputs' at first, get every gate's. A bound that does not
+    fit is cut to q, so that it stays one that does not.
+    """
+    inputs = len(bounds)
+    for g, gate in enumerate(gates):
+        bound = min(gate_bound(p, gate, bounds, rules), p.q)
+        bounds.append(bound)
+        if not fits_budget(p, bound) and rules.counts(inputs, g, gates):
+            yield g
 
 
 class Settled(NamedTuple):
@@ -74,15 +85,13 @@ def settle(p, inputs, gates, input_bounds, rules=PAPER):
 
     Every gate counts against the budget, used later or not.
     """
-    wrong = first_wrong_gate(inputs, gates)
+    wrong = rules.place(wrong_gates(inputs, gates))
     if wrong is not None:
         return Settled(9, wrong, [])
     bounds = list(input_bounds)
-    for g, gate in enumerate(gates):
-        bound = gate_bound(p, gate, bounds, rules)
-        if not fits_budget(p, bound):
-            return Settled(10, g, [])
-        bounds.append(bound)
+    over = rules.place(over_gates(p, gates, bounds, rules))
+    if over is not None:
+        return Settled(10, over, [])
     return Settled(0, 0, bounds)
 
 
@@ -155,5 +164,36 @@ def evaluate(
     stretches = gate_stretches(p, inputs, gates, wires, switching_key, rules)
     wires[inputs * p.n :] = stretches
     bounds[inputs:] = settled.bounds[inputs:]
-    scratch[:] = [0] * len(scratch)
+    scratch[:] = rules.scratch(scratch)
     return Answer(0)
+
+
+def some_list_differs(kinds, lefts, rights):
+    """True when the three lists of a circuit have not one length."""
+    return len(lefts) != len(kinds) or len(rights) != len(kinds)
+
+
+def uneven_number(p, inputs, kinds):
+    """The number where the three lists have not one length. The gate count is that of the kinds."""
+    return first_refusal([
+        (1, lambda: not within_limits(p)),
+        (2, lambda: counts_outside(inputs, len(kinds))),
+        (3, lambda: True),
+    ])
+
+
+def plan_lists(p, inputs, kinds, lefts, rights, bounds, rules=PAPER):
+    """Planning of a circuit that is lent as three lists. Refuses with 1, 2, 3, 8, 9 and 10."""
+    if some_list_differs(kinds, lefts, rights):
+        return Answer(uneven_number(p, inputs, kinds))
+    return plan(p, inputs, [Gate(*g) for g in zip(kinds, lefts, rights)], bounds, rules)
+
+
+def evaluate_lists(
+    p, inputs, kinds, lefts, rights, wires, bounds, switching_key, scratch, rules=PAPER
+):
+    """Evaluation of a circuit that is lent as three lists. Refuses as evaluation does."""
+    if some_list_differs(kinds, lefts, rights):
+        return Answer(uneven_number(p, inputs, kinds))
+    gates = [Gate(*g) for g in zip(kinds, lefts, rights)]
+    return evaluate(p, inputs, gates, wires, bounds, switching_key, scratch, rules)

@@ -31,7 +31,7 @@ from calls import (
     not_gate,
     xor_gate,
 )
-from circuit import AND, NOT, XOR, Gate, evaluate, plan
+from circuit import AND, NOT, XOR, Gate, evaluate, evaluate_lists, plan, plan_lists
 from definitions import multiplier, switch, tensor, true_noise
 from gatfile import check_file, plan_file, printed
 from params import HOUSE_SHEETS, Params, fits_budget, largest_that_fits
@@ -40,9 +40,9 @@ __all__ = [
     "AND", "Answer", "Bounded", "Decrypted", "Gate", "HOUSE_SHEETS", "Made", "NOT",
     "PAPER", "Params", "Rules", "XOR", "and_bound", "and_gate", "centred",
     "check_bench_key", "check_file", "check_key", "decrypt", "encrypt", "evaluate",
-    "fits_budget", "house_sheet", "inner", "largest_that_fits", "make_bench_key",
-    "make_params", "make_switching_key", "multiplier", "not_gate", "plan",
-    "plan_file", "printed", "round_half_up", "switch", "tensor", "true_noise",
+    "evaluate_lists", "fits_budget", "house_sheet", "inner", "largest_that_fits",
+    "make_bench_key", "make_params", "make_switching_key", "multiplier", "not_gate", "plan",
+    "plan_file", "plan_lists", "printed", "round_half_up", "switch", "tensor", "true_noise",
     "xor_gate",
 ]
 

@@ -55,6 +55,30 @@ def from_zero_up(x, m):
     return x % m
 
 
+def last_of(places):
+    """The last of the offending gates."""
+    last = None
+    for last in places:
+        pass
+    return last
+
+
+def all_but_the_last(inputs, g, gates):
+    """Lets the last gate go without a look at its budget."""
+    return g < len(gates) - 1
+
+
+def used_later(inputs, g, gates):
+    """Looks at the budget of those gates alone that a later one reads, and of the output."""
+    later = gates[g + 1 :]
+    return not later or any(inputs + g in (left, right) for _, left, right in later)
+
+
+def as_found(scratch):
+    """Leaves what stood in the scratch."""
+    return list(scratch)
+
+
 HALVES_AWAY_FROM_ZERO = PAPER._replace(rounding=halves_away_from_zero)
 HALVES_DOWN = PAPER._replace(rounding=halves_down)
 EACH_PRODUCT_ROUNDED = PAPER._replace(switch_entry=round_each_product)
@@ -63,3 +87,7 @@ AND_BOUND_ONE_LESS = PAPER._replace(and_bound=and_bound_one_less)
 AND_BOUND_ONE_FLOOR = PAPER._replace(and_bound=and_bound_one_floor)
 A_QUARTER_READS_ONE = PAPER._replace(reads_one=a_quarter_or_more)
 ENTRIES_FROM_ZERO_UP = PAPER._replace(reduction=from_zero_up)
+PLACE_OF_THE_LAST = PAPER._replace(place=last_of)
+LAST_GATE_FREE = PAPER._replace(counts=all_but_the_last)
+UNUSED_GATES_FREE = PAPER._replace(counts=used_later)
+SCRATCH_LEFT = PAPER._replace(scratch=as_found)

@@ -1,27 +1,30 @@
 """Holds the program `replay` against this one, call by call. docs/REPLAY.md has the format.
 
     python3 oracle/replay.py --speak < calls > answers
-    python3 oracle/replay.py --make --seed N --count N > calls
-    python3 oracle/replay.py --compare --seed N --count N [--program FILE]
+    python3 oracle/replay.py --make --seed N --count N --circuits N > calls
+    python3 oracle/replay.py --compare --seed N --count N --circuits N [--program FILE]
     python3 oracle/replay.py --write
     python3 oracle/replay.py --check
 
 --speak answers calls, --make writes a random batch, --compare makes a batch and has
-both programs answer it. --write writes the batch of the gate, with this program's
+both programs answer it. A batch has --count calls on sets, keys and ciphertexts, and then
+--circuits circuits, planning and evaluation of each; --compare adds the largest circuit. --write writes the batch of the gate, with this program's
 answers, beside the source of `replay`, and --check fails where the files are others.
 The exit status is 1 on a difference, and where a batch shows too little.
 """
 
 import argparse
+import itertools
 import random
 import subprocess
 import sys
 import time
 from pathlib import Path
 
+import replay_circuits
 import replay_gate
 from replay_batch import FULL, make_batch, unreadable_texts
-from replay_format import END, answer_line, spoken, written
+from replay_format import END, answered, line_of, spoken, written
 from replay_tally import Tally
 
 PROGRAM = Path(__file__).resolve().parent.parent / "target" / "bin" / "replay"
@@ -43,10 +46,17 @@ def misread(program):
     return None
 
 
-def differing(program, calls):
+def batch(seed, count, circuits):
+    """So many random calls on sets, keys and ciphertexts, and then so many circuits."""
+    rng = random.Random(seed)
+    return itertools.chain(make_batch(rng, count, FULL),
+                           replay_circuits.make_circuits(rng, circuits, replay_circuits.FULL))
+
+
+def differing(program, calls, answers):
     """The first call of these to which the program answers otherwise, with both answers."""
     said = answers_of(program, "".join(written(call) for call in calls))
-    expected = [answer_line(call) for call in calls] + [END]
+    expected = [line_of(answer) for answer in answers] + [END]
     for i, line in enumerate(expected):
         other = said[i] if i < len(said) else ""
         if other != line:
@@ -80,7 +90,7 @@ def show_difference(before, part, found):
     print("expected: " + cut(expected) + "program:  " + cut(other), end="")
 
 
-def compare(seed, count, program):
+def compare(seed, count, circuits, program):
     """Has both programs answer a batch. 1 on a difference or where too little was seen."""
     started = time.time()
     text = misread(program)
@@ -88,13 +98,15 @@ def compare(seed, count, program):
         print("a text that ends with no call is answered otherwise: " + cut(text))
         return 1
     tally = Tally()
-    for part in parts(make_batch(random.Random(seed), count, FULL), PART):
-        found = differing(program, part)
+    largest = replay_circuits.largest_calls(random.Random(seed))
+    for part in parts(itertools.chain(largest, batch(seed, count, circuits)), PART):
+        answers = [answered(call) for call in part]
+        found = differing(program, part, answers)
         if found:
             show_difference(tally.count, part, found)
             return 1
-        for call in part:
-            tally.take(call)
+        for call, answer in zip(part, answers):
+            tally.take(call, answer)
         if tally.count % PROGRESS == 0:
             print(f"{tally.count} calls, {time.time() - started:.0f} s", flush=True)
     print(f"seed {seed}: {tally.count} calls and {len(unreadable_texts())} texts that end with no "
@@ -113,6 +125,7 @@ def arguments():
         what.add_argument("--" + name, action="store_true")
     parser.add_argument("--seed", type=int, default=1)
     parser.add_argument("--count", type=int, default=1000)
+    parser.add_argument("--circuits", type=int, default=200)
     parser.add_argument("--program", default=str(PROGRAM))
     return parser.parse_args()
 
@@ -124,11 +137,11 @@ def main():
         sys.stdout.writelines(spoken(sys.stdin.read()))
         return 0
     if asked.make:
-        batch = make_batch(random.Random(asked.seed), asked.count, FULL)
-        sys.stdout.writelines(written(call) for call in batch)
+        calls = batch(asked.seed, asked.count, asked.circuits)
+        sys.stdout.writelines(written(call) for call in calls)
         return 0
     if asked.compare:
-        return compare(asked.seed, asked.count, asked.program)
+        return compare(asked.seed, asked.count, asked.circuits, asked.program)
     return replay_gate.write() if asked.write else replay_gate.check()
 
 

@@ -1,4 +1,4 @@
-"""Random batches of calls, of all eleven kinds, valid and damaged.
+"""Random batches of calls on sets, keys and ciphertexts, valid and damaged.
 
 A call is first made so that no refusal applies, with numbers at or near the ends of
 their ranges. Then it is mostly damaged: once for one refusal number that the call can
@@ -8,8 +8,8 @@ among the damages, and so are lengths that are one off.
 
 import engine
 from engine import HOUSE_SHEETS, Params, centred, inner, largest_that_fits
-from replay_format import (AND, CHECK_BENCH_KEY, CHECK_KEY, DECRYPT, ENCRYPT, MAKE, MAKE_BENCH_KEY,
-                           MAKE_SWITCHING_KEY, NOT, SHEET, XOR)
+from replay_format import (AND, CHECK_BENCH_KEY, CHECK_KEY, DECRYPT, ENCRYPT, EVALUATE, MAKE,
+                           MAKE_BENCH_KEY, MAKE_SWITCHING_KEY, NOT, PLAN, SHEET, XOR)
 
 LEAST_32, MOST_32 = -(2**31), 2**31 - 1
 LEAST_64, MOST_64 = -(2**63), 2**63 - 1
@@ -24,7 +24,8 @@ REFUSALS = {
     MAKE: (1,), SHEET: (1,), CHECK_KEY: (1, 3, 4), MAKE_SWITCHING_KEY: (1, 3, 4, 6, 7),
     CHECK_BENCH_KEY: (3, 4, 6, 7), MAKE_BENCH_KEY: (3, 4, 6, 7),
     ENCRYPT: (1, 3, 4, 5, 6, 7), DECRYPT: (1, 3, 4, 6), XOR: (1, 3, 6, 8, 10),
-    NOT: (1, 3, 6, 8), AND: (1, 3, 6, 8, 10),
+    NOT: (1, 3, 6, 8), AND: (1, 3, 6, 8, 10), PLAN: (1, 2, 3, 8, 9, 10),
+    EVALUATE: (1, 2, 3, 6, 8, 9, 10),
 }
 
 # Where a call's fields have their keys, and their entries modulo q and modulo Q.
@@ -349,7 +350,7 @@ DAMAGES = {
 
 
 def make_call(rng, sizes):
-    """A call of any kind: six times in ten damaged, one time in ten twice."""
+    """A call of any of these kinds: six times in ten damaged, one time in ten twice."""
     number = rng.randrange(MAKE, AND + 1)
     call = make_valid(rng, number, sizes)
     damages = rng.choice((0, 0, 0, 0, 1, 1, 1, 1, 1, 2))
@@ -368,13 +369,21 @@ def make_batch(rng, count, sizes):
 def unreadable_texts():
     """Texts that end with something that is no call, after one that is."""
     word = "3 2 16 2 1 1 "
+    plan, whole = "12 2 16 2 1 1 1 ", "13 2 16 2 1 1 1 1 2 1 0 1 0 "
     return [
         "2 1\n" + text for text in (
-            "", " \t\r\n", "0", "12", "-1 0", "x", "2 1x", "2 +1", "2 1.0", "2 -", "2 --1", "2 4294967296",
+            "", " \t\r\n", "0", "12", "13", "14", "-1 0", "x", "2 1x", "2 +1", "2 1.0", "2 -", "2 --1", "2 4294967296",
             "2 -1", "1 2 16 2 1", "1 2 16 2 1 9223372036854775808", word, word + "2 1",
             word + "1 2147483648", word + "1 -2147483649", word + "-1", word + "129 " + "1 " * 129,
             "10 2 16 2 1 1 2 0 9223372036854775808 0 2 0 0", "10 2 16 2 1 1 129 " + "0 " * 129 + "0 2 0 0",
             "11 2 16 2 1 1 2 0 0 0 2 0 0 0 8 0 0 0 0 0 0 0 0 4161 " + "0 " * 4161 + "2 0 0",
             "11 2 16 2 1 1 2 0 0 0 2 0 0 0 262401 " + "0 " * 262401 + "4 0 0 0 0 2 0 0",
+            plan + "1 2 1 0 1 0 2 0", plan + "1 2 1 -1 1 0 2 0 0", plan + "1 4294967296 1 0 1 0 2 0 0",
+            plan + "5201 " + "0 " * 5201 + "1 0 1 0 2 0 0", plan + "1 2 1 0 1 0 5201 " + "0 " * 5201,
+            whole + "4 0 0 0 0 2 0 0 8 0 0 0 0 0 0 0 0 4 0 0 0",
+            whole + "4 0 0 0 9223372036854775808 2 0 0 8 0 0 0 0 0 0 0 0 4 0 0 0 0",
+            whole + "4 0 0 0 0 2 0 -1 8 0 0 0 0 0 0 0 0 4 0 0 0 0",
+            whole + "4 0 0 0 0 2 0 0 8 0 0 0 0 0 0 0 0 4161 " + "0 " * 4161,
+            whole + "262401 " + "0 " * 262401 + "2 0 0 8 0 0 0 0 0 0 0 0 4 0 0 0 0",
         )
     ]

@@ -10,18 +10,18 @@ import engine
 from engine import PAPER, Params
 
 (MAKE, SHEET, CHECK_KEY, MAKE_SWITCHING_KEY, CHECK_BENCH_KEY, MAKE_BENCH_KEY, ENCRYPT, DECRYPT,
- XOR, NOT, AND) = range(1, 12)
+ XOR, NOT, AND, PLAN, EVALUATE) = range(1, 14)
 
 NAMES = {
     MAKE: "make", SHEET: "sheet", CHECK_KEY: "check_key",
     MAKE_SWITCHING_KEY: "make_switching_key", CHECK_BENCH_KEY: "check_bench_key",
     MAKE_BENCH_KEY: "make_bench_key", ENCRYPT: "encrypt", DECRYPT: "decrypt",
-    XOR: "xor", NOT: "not", AND: "and",
+    XOR: "xor", NOT: "not", AND: "and", PLAN: "plan", EVALUATE: "evaluate",
 }
 
-# What a call borrows: an unsigned word, a signed number, a parameter set, a key, or a buffer of
-# at most n, n^2 or n^3 entries.
-WORD, NUMBER, SET, KEY, SHORT, MIDDLE, LONG = range(7)
+# What a call borrows: an unsigned word, a signed number, a parameter set, a key, a buffer of
+# at most n, n^2 or n^3 entries, or a list of words, one for each gate or wire of a circuit.
+WORD, NUMBER, SET, KEY, SHORT, MIDDLE, LONG, RUN = range(8)
 
 FIELDS = {
     MAKE: [SET],
@@ -35,12 +35,15 @@ FIELDS = {
     XOR: [SET, SHORT, WORD, SHORT, WORD, SHORT],
     NOT: [SET, SHORT, WORD, SHORT],
     AND: [SET, SHORT, WORD, SHORT, WORD, LONG, MIDDLE, SHORT],
+    PLAN: [SET, WORD, RUN, RUN, RUN, RUN],
+    EVALUATE: [SET, WORD, RUN, RUN, RUN, LONG, RUN, LONG, MIDDLE],
 }
 
 WORDS = (0, 2**32 - 1)
 NUMBERS = (-(2**63), 2**63 - 1)
 KEY_ENTRIES = (-(2**31), 2**31 - 1)
-MOST_ENTRIES = {KEY: 128, SHORT: 128, MIDDLE: 4160, LONG: 262400}
+MOST_ENTRIES = {KEY: 128, SHORT: 128, MIDDLE: 4160, LONG: 262400, RUN: 5200}
+WIDTHS = {KEY: KEY_ENTRIES, SHORT: NUMBERS, MIDDLE: NUMBERS, LONG: NUMBERS, RUN: WORDS}
 
 END = "end \n"
 
@@ -74,7 +77,7 @@ class Reader:
             return self.take(NUMBERS)
         if kind == SET:
             return Params(*(self.take(WORDS) for _ in range(5)))
-        return self.run(MOST_ENTRIES[kind], KEY_ENTRIES if kind == KEY else NUMBERS)
+        return self.run(MOST_ENTRIES[kind], WIDTHS[kind])
 
     def call(self):
         """The next call, whole."""
@@ -122,6 +125,11 @@ def answered(call, rules=PAPER):
         return list(engine.check_key(*lent))
     if number == MAKE_SWITCHING_KEY:
         return [*engine.make_switching_key(*lent), *lent[-1]]
+    if number == PLAN:
+        return [*engine.plan_lists(*lent, rules), *lent[-1]]
+    if number == EVALUATE:
+        answer = engine.evaluate_lists(*lent, rules)
+        return [*answer, *lent[5], *lent[6], *lent[8]]
     answer = {
         ENCRYPT: engine.encrypt, DECRYPT: engine.decrypt,
         XOR: engine.xor_gate, NOT: engine.not_gate, AND: engine.and_gate,
@@ -132,9 +140,14 @@ def answered(call, rules=PAPER):
     return [*answer, *scratch, *lent[-1]]
 
 
+def line_of(answer):
+    """An answer as a line. Each number has a space after it."""
+    return "".join(f"{x} " for x in answer) + "\n"
+
+
 def answer_line(call):
-    """The line that answers a call. Each number has a space after it."""
-    return "".join(f"{x} " for x in answered(call)) + "\n"
+    """The line that answers a call."""
+    return line_of(answered(call))
 
 
 def spoken(text):

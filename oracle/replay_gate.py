@@ -1,4 +1,5 @@
-"""The batch of the gate: the paper's figures and some random calls, with this program's answers.
+"""The batch of the gate: the paper's figures, some random calls and circuits, with this program's
+answers.
 
 It is stored beside the source of the program `replay`, which is run on it.
 """
@@ -7,22 +8,33 @@ import random
 from pathlib import Path
 
 import faults
+import replay_circuits
 from replay_batch import SMALL, make_batch
 from replay_figures import figures, wrong_figures
-from replay_format import answered, spoken, written
-from replay_tally import Tally
+from replay_format import NAMES, answered, spoken, written
+from replay_tally import CIRCUIT_CALLS, Tally
 
 STORED = Path(__file__).resolve().parent.parent / "crates" / "replay"
 SEED, COUNT = 20243, 400
+CIRCUIT_SEED, CIRCUITS = 1, 80
 
+# The planted faults that are to be seen in the calls on sets, keys and ciphertexts, and those
+# that are to be seen in the calls on circuits.
 FAULTS = ("HALVES_AWAY_FROM_ZERO", "HALVES_DOWN", "EACH_PRODUCT_ROUNDED", "SUM_CUT_TO_64_BITS",
           "AND_BOUND_ONE_LESS", "AND_BOUND_ONE_FLOOR", "A_QUARTER_READS_ONE",
           "ENTRIES_FROM_ZERO_UP")
+CIRCUIT_FAULTS = (
+    "HALVES_AWAY_FROM_ZERO", "HALVES_DOWN", "EACH_PRODUCT_ROUNDED", "SUM_CUT_TO_64_BITS",
+    "AND_BOUND_ONE_LESS", "AND_BOUND_ONE_FLOOR", "ENTRIES_FROM_ZERO_UP", "PLACE_OF_THE_LAST",
+    "LAST_GATE_FREE", "UNUSED_GATES_FREE", "SCRATCH_LEFT")
 
 
 def calls_of_the_gate():
-    """The paper's figures, then random calls."""
-    return [call for call, _ in figures()] + list(make_batch(random.Random(SEED), COUNT, SMALL))
+    """The paper's figures, then random calls, then circuits."""
+    single = make_batch(random.Random(SEED), COUNT, SMALL)
+    circuits = replay_circuits.make_circuits(
+        random.Random(CIRCUIT_SEED), CIRCUITS, replay_circuits.SMALL)
+    return [call for call, _ in figures()] + list(single) + list(circuits)
 
 
 def files(calls):
@@ -31,10 +43,10 @@ def files(calls):
     return {"stdin": text, "stdout": "".join(spoken(text))}
 
 
-def unseen_faults(calls):
+def unseen_faults(names, calls):
     """The planted faults that give the same answer to every call."""
     right = [answered(call) for call in calls]
-    return [name for name in FAULTS
+    return [name for name in names
             if all(answered(call, getattr(faults, name)) == answer
                    for call, answer in zip(calls, right))]
 
@@ -43,10 +55,16 @@ def complaints(calls):
     """What is wrong with the batch, or with the stored files."""
     tally = Tally()
     for call in calls:
-        tally.take(call)
+        tally.take(call, answered(call))
     bad = [f"a figure is answered otherwise: {written(call)}" for call in wrong_figures()]
-    bad += tally.seldom(1)
-    bad += [f"no call shows the planted fault {name}" for name in unseen_faults(calls)]
+    bad += tally.seldom(1, NAMES)
+    if not tally.circuits.both:
+        bad.append("no circuit is refused with 9 after a gate that does not fit")
+    single = [call for call in calls if call[0] not in CIRCUIT_CALLS]
+    circuits = [call for call in calls if call[0] in CIRCUIT_CALLS]
+    bad += [f"no call shows the planted fault {name}" for name in unseen_faults(FAULTS, single)]
+    bad += [f"no circuit shows the planted fault {name}"
+            for name in unseen_faults(CIRCUIT_FAULTS, circuits)]
     for name, text in files(calls).items():
         path = STORED / name
         if not path.exists() or path.read_text() != text:
@@ -63,7 +81,7 @@ def check():
     if not bad:
         sizes = ", ".join(f"{name} {len(text)} bytes" for name, text in files(calls).items())
         print(f"batch of the gate: {len(calls)} calls, every number that a call can give, "
-              f"{len(FAULTS)} planted faults seen, {sizes}")
+              f"{len(FAULTS)} planted faults seen, {len(CIRCUIT_FAULTS)} in circuits, {sizes}")
     return 1 if bad else 0
 
 

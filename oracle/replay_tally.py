@@ -2,32 +2,109 @@
 
 from collections import Counter
 
+import circuit
 import engine
+from engine import Gate
 from replay_batch import REFUSALS
-from replay_format import (AND, CHECK_BENCH_KEY, MAKE_BENCH_KEY, MAKE_SWITCHING_KEY, NAMES,
-                           answered)
+from replay_format import (AND, CHECK_BENCH_KEY, EVALUATE, MAKE_BENCH_KEY, MAKE_SWITCHING_KEY,
+                           NAMES, PLAN, answered)
 
 ENOUGH = 50        # how often each number of a call is to be seen in a batch of ENOUGH_IN
 ENOUGH_WIDE = 100  # and how many ANDs whose S passes 2^63
 ENOUGH_IN = 20000
 
+ENOUGH_CIRCUITS = 5000     # the same of the two calls on circuits, in a batch of so many of them
+ENOUGH_WITH_AN_AND = 1000  # and how many that are accepted and have an AND
 
-def number_of(call):
+CIRCUIT_CALLS = (PLAN, EVALUATE)
+
+
+def number_of(call, answer):
     """The number that a call gives. That of the bench key maker is that of its check."""
-    if call[0] == MAKE_BENCH_KEY:
-        return answered((CHECK_BENCH_KEY, call[1]))[0]
-    return answered(call)[0]
+    return answered((CHECK_BENCH_KEY, call[1]))[0] if call[0] == MAKE_BENCH_KEY else answer[0]
 
 
-def is_wide(call):
-    """Whether some S of an AND that is done is 2^63 or more in size."""
-    p, left, _, right, _, key = call[1][:6]
+def is_wide(p, left, right, key):
+    """Whether some S of an AND is 2^63 or more in size."""
     columns = p.n * p.n
     if columns * p.half * (p.Q // 2) < 2**63:
         return False
     tensor = engine.tensor(p, left, right)
     rows = (key[i * columns : (i + 1) * columns] for i in range(p.n))
     return any(abs(engine.inner(tensor, row)) >= 2**63 for row in rows)
+
+
+def gates_of(call):
+    """The gates of a call on a circuit whose three lists have one length."""
+    return [Gate(*g) for g in zip(*call[1][2:5])]
+
+
+def has_wide_and(call, answer):
+    """Whether the first AND of a circuit that was evaluated is wide."""
+    p, key = call[1][0], call[1][7]
+    gate = next(gate for gate in gates_of(call) if gate.kind == engine.AND)
+    left, right = (answer[2 + w * p.n : 2 + (w + 1) * p.n] for w in gate[1:])
+    return is_wide(p, left, right, key)
+
+
+def and_depth(inputs, gates):
+    """The most ANDs on a way from an input to a gate."""
+    depths = [0] * inputs
+    for kind, left, right in gates:
+        depths.append(depths[left] if kind == engine.NOT
+                      else max(depths[left], depths[right]) + (kind == engine.AND))
+    return max(depths)
+
+
+def is_over_before(call, place):
+    """Whether a gate before this one has a bound that does not fit."""
+    p, inputs = call[1][:2]
+    bounds = call[1][5 if call[0] == PLAN else 6][:inputs]
+    return any(True for _ in circuit.over_gates(p, gates_of(call)[:place], bounds, engine.PAPER))
+
+
+class Circuits:
+    """What was seen of circuits."""
+
+    def __init__(self):
+        self.with_an_and = Counter()  # that were evaluated, by n
+        self.twice = 0                # with an AND or XOR of one wire
+        self.wide = 0                 # with an AND of some |S| of 2^63 or more
+        self.odd = 0                  # with a q that is no power of two
+        self.depth = self.gates = 0   # the most ANDs on a way, the most gates
+        self.late = Counter()         # 9 and 10 at a gate that is not the first
+        self.both = 0                 # 9 after a gate that does not fit
+
+    def take(self, call, answer):
+        """Counts a call."""
+        number, place = answer[:2]
+        if number in (9, 10):
+            self.late[number] += place > 0
+            self.both += number == 9 and is_over_before(call, place)
+        kinds = call[1][2]
+        if call[0] == EVALUATE and number == 0 and engine.AND in kinds:
+            self.take_evaluated(call, answer)
+
+    def take_evaluated(self, call, answer):
+        """Counts an evaluation with an AND."""
+        p, inputs = call[1][:2]
+        gates = gates_of(call)
+        self.with_an_and[p.n] += 1
+        self.twice += any(kind != engine.NOT and left == right for kind, left, right in gates)
+        self.wide += has_wide_and(call, answer)
+        self.odd += p.q & (p.q - 1) != 0
+        self.depth = max(self.depth, and_depth(inputs, gates))
+        self.gates = max(self.gates, len(gates))
+
+    def show(self):
+        """Prints what was seen."""
+        sizes = " ".join(f"{n}:{self.with_an_and[n]}" for n in sorted(self.with_an_and))
+        print(f"circuits with an AND that were evaluated: {sum(self.with_an_and.values())}, by n: {sizes}")
+        print(f"  with one wire twice: {self.twice}, with a q that is no power of two: {self.odd}, "
+              f"with some |S| of 2^63 or more: {self.wide}")
+        print(f"  most ANDs on a way: {self.depth}, most gates: {self.gates}")
+        print(f"refused with 9 and 10 at a gate after the first: {self.late[9]} and {self.late[10]}, "
+              f"with 9 after a gate that does not fit: {self.both}")
 
 
 class Tally:
@@ -38,15 +115,23 @@ class Tally:
         self.seen = Counter()   # by kind and number
         self.made = Counter()   # switching keys and ANDs that were made, by n
         self.wide = 0           # ANDs with some |S| of 2^63 or more
+        self.circuits = Circuits()
 
-    def take(self, call):
+    def take(self, call, answer):
         """Counts a call."""
-        kind, number = call[0], number_of(call)
+        kind, number = call[0], number_of(call, answer)
         self.count += 1
         self.seen[kind, number] += 1
-        if number == 0 and kind in (MAKE_SWITCHING_KEY, AND):
-            self.made[call[1][0].n] += 1
-            self.wide += kind == AND and is_wide(call)
+        if kind in CIRCUIT_CALLS:
+            self.circuits.take(call, answer)
+        elif number == 0 and kind in (MAKE_SWITCHING_KEY, AND):
+            p, fields = call[1][0], call[1]
+            self.made[p.n] += 1
+            self.wide += kind == AND and is_wide(p, fields[1], fields[3], fields[5])
+
+    def total(self, kinds):
+        """How many calls of these kinds."""
+        return sum(count for (kind, _), count in self.seen.items() if kind in kinds)
 
     def show(self):
         """Prints what was seen, a line for each kind of call."""
@@ -56,16 +141,23 @@ class Tally:
         print(f"ANDs with some |S| of 2^63 or more: {self.wide}")
         sizes = " ".join(f"{n}:{self.made[n]}" for n in sorted(self.made))
         print(f"switching keys and ANDs that were made, by n: {sizes}")
+        self.circuits.show()
 
-    def seldom(self, least):
-        """What was seen fewer than so many times, of the numbers that each call can give."""
+    def seldom(self, least, kinds):
+        """What was seen fewer than so many times, of the numbers that these calls can give."""
         return [f"{NAMES[kind]} gives {k} fewer than {least} times"
-                for kind, numbers in REFUSALS.items() for k in (0,) + numbers
-                if self.seen[kind, k] < least]
+                for kind in kinds for k in (0,) + REFUSALS[kind] if self.seen[kind, k] < least]
 
     def lacks(self):
         """What a batch that is large enough has shown too seldom."""
-        if self.count < ENOUGH_IN:
-            return []
-        few = [f"fewer than {ENOUGH_WIDE} ANDs with some |S| of 2^63 or more"]
-        return self.seldom(ENOUGH) + (few if self.wide < ENOUGH_WIDE else [])
+        single = [kind for kind in NAMES if kind not in CIRCUIT_CALLS]
+        few = []
+        if self.total(single) >= ENOUGH_IN:
+            few += self.seldom(ENOUGH, single)
+            if self.wide < ENOUGH_WIDE:
+                few.append(f"fewer than {ENOUGH_WIDE} ANDs with some |S| of 2^63 or more")
+        if self.total([EVALUATE]) >= ENOUGH_CIRCUITS:
+            few += self.seldom(ENOUGH, CIRCUIT_CALLS)
+            if sum(self.circuits.with_an_and.values()) < ENOUGH_WITH_AN_AND:
+                few.append(f"fewer than {ENOUGH_WITH_AN_AND} circuits with an AND were evaluated")
+        return few

@@ -6,6 +6,7 @@ import unittest
 import test_edges
 import test_figures
 import test_file
+import test_lists
 import test_refusals
 import test_reverse
 import test_wide_sums
@@ -17,6 +18,7 @@ PARTS = (
     ("ends of the widths", test_widths),
     ("sums beyond 64 bits", test_wide_sums),
     ("order of refusals", test_refusals),
+    ("three lists", test_lists),
     ("circuit file", test_file),
     ("second ways", test_reverse),
 )
