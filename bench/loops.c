@@ -1,22 +1,9 @@
 #include "loops.h"
 
-/* [x]q: in -q/2 to q/2-1. */
-static int64_t centred(int64_t x, int64_t q) {
-    int64_t r = x % q;
-    if (2 * r < -q) return r + q;
-    if (2 * r >= q) return r - q;
-    return r;
-}
-
 /* round(a/q), a half up. The quotient of a row's sum always fits 64 bits. */
 static int64_t round_int128(__int128 a, int64_t q) {
     const __int128 raised = a + q / 2;
     const int64_t k = (int64_t)(raised / q);
-    return raised % q < 0 ? k - 1 : k;
-}
-
-static int64_t round_int64(int64_t a, int64_t q) {
-    const int64_t raised = a + q / 2, k = raised / q;
     return raised % q < 0 ? k - 1 : k;
 }
 

@@ -2,9 +2,8 @@
    of the key; the range check and the tensor against the switch. Prints nanoseconds an entry of the key, the ratios, and which targets are met. */
 #define _POSIX_C_SOURCE 199309L
 #include <stdio.h>
-#include <stdlib.h>
 #include <string.h>
-#include <time.h>
+#include "common.h"
 #include "loops.h"
 
 /* The Rattle calls: a slice is a pointer, then a length. Each tests its loans once, then runs `times` times. */
@@ -56,23 +55,6 @@ static void (*const works[WORKS])(const struct lent *, uint32_t) = {only_test, t
 
 /* ---- the loans */
 
-static uint64_t state = 88172645463325252ull;
-
-/* A number in -half to half-1. */
-static int64_t draw(int64_t half) {
-    state ^= state << 13;
-    state ^= state >> 7;
-    state ^= state << 17;
-    return (int64_t)(state % (uint64_t)(2 * half)) - half;
-}
-
-static int64_t *drawn(uint64_t entries, int64_t half) {
-    int64_t *xs = malloc(entries * sizeof *xs);
-    if (!xs) exit(2);
-    for (uint64_t j = 0; j < entries; j++) xs[j] = draw(half);
-    return xs;
-}
-
 static struct lent lend(uint64_t n) {
     const uint64_t columns = n * n, entries = n * columns;
     const int64_t half = q / 2, big = (int64_t)q * q / 2;
@@ -97,13 +79,6 @@ static int agree(const struct lent *l) {
 }
 
 /* ---- the clock */
-
-/* Processor time in nanoseconds, so that what else the machine does counts less. */
-static double now(void) {
-    struct timespec s;
-    clock_gettime(CLOCK_PROCESS_CPUTIME_ID, &s);
-    return (double)s.tv_sec * 1e9 + (double)s.tv_nsec;
-}
 
 /* The least of several runs of each, in turn, so that all meet the same machine. */
 static void time_all(const struct lent *l, uint32_t times, double least[WORKS]) {
