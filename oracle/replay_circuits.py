@@ -10,17 +10,17 @@ from typing import NamedTuple
 
 import circuit
 import engine
-from engine import Gate, Params, fits_budget, largest_that_fits
+from circuit import MOST_GATES, MOST_INPUTS
+from engine import HOUSE_SHEETS, Gate, Params, fits_budget, largest_that_fits
 from replay_batch import (LEAST_64, MOST_64, REFUSALS, WRAPPING, and_bounds, damage_set,
                           draw_bound, draw_entries, draw_errors, draw_found, draw_key,
                           make_wide_and, put, quiet_set)
-from replay_format import EVALUATE, PLAN
+from replay_format import EVALUATE, FIELDS, MAKE_SWITCHING_KEY, MOST_ENTRIES, PLAN, SET, WORD
 
 # Where the calls have their fields. KINDS, LEFTS and RIGHTS are those of both.
 SET_AT, INPUTS_AT, KINDS, LEFTS, RIGHTS, WIRES, KEY, SCRATCH = 0, 1, 2, 3, 4, 5, 7, 8
 BOUNDS_AT = {PLAN: 5, EVALUATE: 6}
 
-MOST_INPUTS, MOST_GATES = 1024, 4096
 MOST_WORD = 2**32 - 1
 
 
@@ -40,12 +40,14 @@ class CircuitSizes(NamedTuple):
     n: tuple        # one of these, mostly
     large_n: tuple  # one of these, one time in `seldom`
     seldom: int
+    wide_n: tuple   # one of these where the sums are to pass 2^63
     inputs: int     # the most inputs, seldom
     gates: int      # the most gates, seldom
 
 
-FULL = CircuitSizes((2, 2, 3, 3, 4, 4, 5, 6, 7, 8), (9, 12, 15, 16, 16, 16, 16, 24, 33, 64), 15, 40, 64)
-SMALL = CircuitSizes((2, 2, 2, 3, 3, 4), (6,), 30, 6, 14)
+FULL = CircuitSizes((2, 2, 3, 3, 4, 4, 5, 6, 7, 8), (9, 12, 15, 16, 16, 16, 16, 24, 33, 64), 15,
+                    (6, 7, 8), 40, 64)
+SMALL = CircuitSizes((2, 2, 2, 3, 3, 4), (6,), 30, (6,), 6, 14)
 
 
 # What is drawn: gates.
@@ -142,7 +144,7 @@ def draw_circuit(rng, sizes):
     n = rng.choice(sizes.n if rng.randrange(sizes.seldom) else sizes.large_n)
     inputs, count = draw_counts(rng, n, sizes)
     if rng.randrange(12) == 0:
-        return wide_circuit(rng, rng.choice((6, 7, 8)) if max(sizes.n) > 4 else 6, inputs, count)
+        return wide_circuit(rng, rng.choice(sizes.wide_n), inputs, count)
     make = true_circuit if rng.randrange(2) else any_circuit
     return make(rng, quiet_set(rng, n), inputs, count)
 
@@ -339,9 +341,18 @@ def with_last(drawn, gate):
     return drawn._replace(gates=drawn.gates[:-1] + [gate])
 
 
+def fullest_call(number):
+    """A call with every list as long as the format lets it be."""
+    def fullest(kind):
+        if kind == SET:
+            return HOUSE_SHEETS[4]
+        return 1 if kind == WORD else [1] * MOST_ENTRIES[kind]
+    return number, [fullest(kind) for kind in FIELDS[number]]
+
+
 def largest_calls(rng):
     """Both calls on the largest circuit, on the same with a last gate that is wrong and with one
-    that does not fit, and with one gate and one input too many."""
+    that does not fit, and with one gate and one input too many; and the longest calls."""
     drawn = largest_circuit(rng)
     bounds = circuit.settle(drawn.p, MOST_INPUTS, drawn.gates, drawn.bounds).bounds
     loudest = bounds.index(max(bounds[:-1]))
@@ -352,3 +363,4 @@ def largest_calls(rng):
     for one in (drawn, with_last(drawn, wrong), with_last(drawn, loud), more, wider):
         yield plan_call(rng, one)
         yield evaluate_call(rng, one)
+    yield from (fullest_call(number) for number in (MAKE_SWITCHING_KEY, PLAN, EVALUATE))

@@ -16,7 +16,7 @@ from replay_tally import CIRCUIT_CALLS, Tally
 
 STORED = Path(__file__).resolve().parent.parent / "crates" / "replay"
 SEED, COUNT = 20243, 400
-CIRCUIT_SEED, CIRCUITS = 1, 80
+CIRCUIT_SEED, CIRCUITS = 53, 80
 
 # The planted faults that are to be seen in the calls on sets, keys and ciphertexts, and those
 # that are to be seen in the calls on circuits.
