@@ -7,8 +7,8 @@ its entries out, since q times 1 at column j and 0 elsewhere gives tensor entry 
 """
 
 from engine import HOUSE_SHEETS, Params
-from replay_format import (AND, DECRYPT, ENCRYPT, MAKE, MAKE_SWITCHING_KEY, NOT, SHEET, XOR,
-                           answered)
+from replay_format import (AND, DECRYPT, ENCRYPT, EVALUATE, MAKE, MAKE_SWITCHING_KEY, NOT, PLAN,
+                           SHEET, XOR, answered)
 
 SHEET_0, SHEET_1 = HOUSE_SHEETS[0], HOUSE_SHEETS[1]
 QUIET = Params(2, 16, 1, 0, 0)
@@ -101,9 +101,41 @@ def edge_figures():
     ] + [((SHEET, [6]), [1] + [0] * 6)]
 
 
+def planned(p, bounds, gates, answer, made):
+    """Planning on these inputs' bounds, with something in the gates'; what is made of them is left
+    as found on a refusal."""
+    found = [9] * len(gates)
+    lent = [p, len(bounds), *(list(column) for column in zip(*gates)), bounds + found]
+    return (PLAN, lent), answer + bounds + (made or found)
+
+
+def quiet_circuit(gates, inputs, results):
+    """Evaluation on the set of `quiet_and` with the switching key of the figures, all bounds 0."""
+    count, wires = len(gates), len(inputs) // 2
+    lent = [QUIET, wires, *(list(column) for column in zip(*gates)), inputs + [99] * (2 * count),
+            [0] * wires + [99] * count, SWITCHING_KEY, [1, 2, 3, 4]]
+    return (EVALUATE, lent), [0, 0] + inputs + results + [0] * (wires + count + 4)
+
+
+def circuit_figures():
+    """The bounds of the printed example, the figures of bounds as circuits of one gate, and those of
+    ciphertexts as one circuit: XOR, NOT and AND of (6,3)."""
+    of_two = [(1, 0, 1)]
+    return [
+        planned(SHEET_1, [2, 2], [(1, 0, 1), (2, 2, 0), (0, 3, 0)], [0, 0], [34, 34, 36]),
+        planned(SHEET_1, [2030, 2030], of_two, [0, 0], [16383]),
+        planned(SHEET_1, [2031, 2031], of_two, [10, 0], None),
+        planned(SHEET_0, [1, 2], [(0, 0, 1)], [0, 0], [3]),
+        planned(SHEET_0, [1, 3], [(0, 0, 1)], [10, 0], None),
+        planned(SHEET_0, [1, 1], of_two, [10, 0], None),
+        planned(SHEET_0, [4, 1], of_two, [8, 0], None),
+        quiet_circuit([(0, 0, 0), (2, 0, 0), (1, 0, 0)], [6, 3], [-4, 6, -2, 3, 7, 4]),
+    ]
+
+
 def figures():
     """Every figure as a call and the paper's answer."""
-    return proved_figures() + edge_figures() + slips()
+    return proved_figures() + edge_figures() + slips() + circuit_figures()
 
 
 def wrong_figures():
