@@ -1,15 +1,19 @@
 // Tests at run time of what the functions of `modular` require.
 ghost use mathlib.Core.Path.{_≡_};
-ghost use mathlib.Core.Bool.{true};
 ghost use Prim.Native.Nat.{_≤_, _<_};
-ghost use lib.IntN.{natAbs};
+ghost use lib.Dec.{leb};
 ghost use lib.ListN.{length};
 ghost use Rattle.whole.specs.Inner.{sizes};
-ghost use Rattle.modular.specs.Loans.{Modulus, UpTo};
+ghost use Rattle.whole.specs.Lists.{all};
+ghost use Rattle.modular.specs.Loans.{Modulus};
 ghost use Rattle.stream.specs.Bounds.{Counts};
+ghost use Rattle.stream.specs.Front.{front};
+ghost use Rattle.stream.specs.Ranges.{isNarrow};
+ghost use Rattle.edges.specs.Guard.{isUpTo, asModulus, asCount, leading};
 
 // q where it is a modulus: even, and from 2 to 2^20. Otherwise 0.
 pub fn modulus(q: i64) -> u32
+    ensures { λ r. ⌜ r ≡ asModulus q ⌝ }
     ensures { λ r. ⌜ (0 < r → Modulus r) ⌝ }
 {
     if q < 1 {
@@ -26,7 +30,9 @@ pub fn modulus(q: i64) -> u32
 }
 
 // x where it counts or places entries: from 0 to 65,536. Otherwise 65,537, which no case takes.
-pub fn count(x: i64) -> usize {
+pub fn count(x: i64) -> usize
+    ensures { λ r. ⌜ r ≡ asCount x ⌝ }
+{
     if x < 0 {
         return 65537;
     }
@@ -38,7 +44,7 @@ pub fn count(x: i64) -> usize {
 
 // Whether x is at most `most` in size.
 pub fn is_up_to(most: u64, x: i64) -> bool
-    ensures { λ r. ⌜ (r ≡ true → natAbs x ≤ most) ⌝ }
+    ensures { λ r. ⌜ r ≡ isUpTo most x ⌝ }
 {
     if x < 0 {
         return ((-(x + 1)) as u64) < most;
@@ -48,7 +54,7 @@ pub fn is_up_to(most: u64, x: i64) -> bool
 
 // Whether every entry is.
 pub fn all_up_to(most: u64, xs: &[i64]) -> bool
-    ensures { λ r. ⌜ (r ≡ true → UpTo most (now (xs .entry))) ⌝ }
+    ensures { λ r. ⌜ r ≡ all (isUpTo most) (now (xs .entry)) ⌝ }
 {
     for i in 0..xs.len() {
         if !is_up_to(most, xs[i]) {
@@ -61,14 +67,16 @@ pub fn all_up_to(most: u64, xs: &[i64]) -> bool
 // Whether the sizes of a key's entries sum to at most 4,096, as `inner_product` and `inner_column` require.
 pub fn is_small(s: &[i32]) -> bool
     requires { ⌜ length (now s) ≤ 1024 ⌝ }
-    ensures { λ r. ⌜ (r ≡ true → sizes (now (s .entry)) ≤ 4096) ⌝ }
+    ensures { λ r. ⌜ r ≡ leb (sizes (now (s .entry))) 4096 ⌝ }
 {
     modular::key::sum_of_sizes(s) <= 4096
 }
 
-// Copies numbers of 32 bits to the front of `to`, and tells whether all of them are.
+// Copies numbers of 32 bits to the front of `to`, up to the first that is none, and tells whether all of them are.
 pub fn narrow(from: &[i64], to: &mut [i32]) -> bool
     requires { ⌜ length (now from) ≤ length (now to) ⌝ }
+    ensures { λ r. ⌜ r ≡ all isNarrow (now (from .entry)) ⌝ }
+    ensures { λ _. ⌜ now (to .exit) ≡ front (leading isNarrow (now (from .entry))) (now (to .entry)) ⌝ }
     ensures { λ _. ⌜ Counts (length (now (from .entry))) (now (to .exit)) ⌝ }
 {
     for i in 0..from.len() {

@@ -2,6 +2,7 @@
 ghost use mathlib.Core.Path.{_≡_};
 ghost use Prim.Native.Nat.{_*_, _≤_, _<_};
 ghost use lib.ListN.{length};
+ghost use Rattle.stream.specs.Bounds.{Placed};
 use crate::guard;
 use crate::print;
 use modular::key::inner_column;
@@ -12,7 +13,9 @@ use modular::key::sum_of_sizes;
 const ENTRY: u64 = 549755813888;
 
 // 11: the sum of the sizes of a key's entries
-pub fn sum(s: &[i64], text: &mut [u8], at: usize) -> usize {
+pub fn sum(s: &[i64], text: &mut [u8], at: usize) -> usize
+    ensures { λ r. ⌜ Placed r (now (text .entry)) (now (text .exit)) ⌝ }
+{
     let mut small = [0i32; 1024];
     let n = s.len();
     if 1024 < n {
@@ -29,7 +32,9 @@ pub fn sum(s: &[i64], text: &mut [u8], at: usize) -> usize {
 }
 
 // 12: <s,c>
-pub fn product(s: &[i64], c: &[i64], text: &mut [u8], at: usize) -> usize {
+pub fn product(s: &[i64], c: &[i64], text: &mut [u8], at: usize) -> usize
+    ensures { λ r. ⌜ Placed r (now (text .entry)) (now (text .exit)) ⌝ }
+{
     let mut small = [0i32; 1024];
     let n = s.len();
     if 1024 < n {
@@ -43,6 +48,7 @@ pub fn product(s: &[i64], c: &[i64], text: &mut [u8], at: usize) -> usize {
 
 fn product_of(s: &[i32], c: &[i64], text: &mut [u8], at: usize) -> usize
     requires { ⌜ length (now s) ≤ 1024 ⌝ }
+    ensures { λ r. ⌜ Placed r (now (text .entry)) (now (text .exit)) ⌝ }
 {
     if s.len() != c.len() {
         return print::refused(text, at);
@@ -57,14 +63,9 @@ fn product_of(s: &[i32], c: &[i64], text: &mut [u8], at: usize) -> usize
 }
 
 // 13: <s,column j> of a table that lies row by row, of `width` columns
-pub fn column(
-    width: usize,
-    j: usize,
-    s: &[i64],
-    table: &[i64],
-    text: &mut [u8],
-    at: usize,
-) -> usize {
+pub fn column(width: usize, j: usize, s: &[i64], table: &[i64], text: &mut [u8], at: usize) -> usize
+    ensures { λ r. ⌜ Placed r (now (text .entry)) (now (text .exit)) ⌝ }
+{
     let mut small = [0i32; 1024];
     let n = s.len();
     if 1024 < n {
@@ -78,6 +79,7 @@ pub fn column(
 
 fn column_of(width: usize, j: usize, s: &[i32], table: &[i64], text: &mut [u8], at: usize) -> usize
     requires { ⌜ length (now s) ≤ 1024 ⌝ }
+    ensures { λ r. ⌜ Placed r (now (text .entry)) (now (text .exit)) ⌝ }
 {
     if 65536 < width {
         return print::refused(text, at);

@@ -32,13 +32,7 @@ mod print;
 const MOST: usize = 65536;
 
 // Reads and answers the cases. Returns how many bytes of `text` are filled.
-fn run(
-    block: &mut [u8],
-    left: &mut [i64],
-    right: &mut [i64],
-    space: &mut [i64],
-    text: &mut [u8],
-) -> usize {
+fn run(block: &mut [u8], left: &mut [i64], right: &mut [i64], text: &mut [u8]) -> usize {
     let mut cursor = stream::start();
     let mut at = 0;
     for _ in 0..MOST {
@@ -47,7 +41,7 @@ fn run(
             return at;
         }
         cursor = read.cursor;
-        at = answer::answer(read, left, right, space, text, at);
+        at = answer::answer(read, left, right, text, at);
     }
     at
 }
@@ -56,8 +50,7 @@ fn main() {
     let mut block = [0u8; 4096];
     let mut left = [0i64; 4096];
     let mut right = [0i64; 40960];
-    let mut space = [0i64; 4096];
     let mut text = [0u8; 65536];
-    let at = run(&mut block, &mut left, &mut right, &mut space, &mut text);
+    let at = run(&mut block, &mut left, &mut right, &mut text);
     stream::flush(&mut text, at);
 }

@@ -1,5 +1,6 @@
 // The cases on single numbers.
 ghost use Rattle.modular.specs.Loans.{Modulus};
+ghost use Rattle.stream.specs.Bounds.{Placed};
 use crate::guard;
 use crate::print;
 use modular::big_residue::BigResidue;
@@ -11,6 +12,7 @@ use modular::tensor::tensor_entry;
 // 1: [x]q
 pub fn residue(q: u32, x: i64, text: &mut [u8], at: usize) -> usize
     requires { ⌜ Modulus q ⌝ }
+    ensures { λ r. ⌜ Placed r (now (text .entry)) (now (text .exit)) ⌝ }
 {
     print::one(text, at, Residue::of(x, q).value())
 }
@@ -18,6 +20,7 @@ pub fn residue(q: u32, x: i64, text: &mut [u8], at: usize) -> usize
 // 2: [x]Q
 pub fn big_residue(q: u32, x: i64, text: &mut [u8], at: usize) -> usize
     requires { ⌜ Modulus q ⌝ }
+    ensures { λ r. ⌜ Placed r (now (text .entry)) (now (text .exit)) ⌝ }
 {
     print::one(text, at, BigResidue::of(x, q).value())
 }
@@ -25,6 +28,7 @@ pub fn big_residue(q: u32, x: i64, text: &mut [u8], at: usize) -> usize
 // 3: round(a/q), of an a of at most 2^62 in size
 pub fn rounded(q: u32, a: i64, text: &mut [u8], at: usize) -> usize
     requires { ⌜ Modulus q ⌝ }
+    ensures { λ r. ⌜ Placed r (now (text .entry)) (now (text .exit)) ⌝ }
 {
     if !guard::is_up_to(4611686018427387904, a) {
         return print::refused(text, at);
@@ -35,6 +39,7 @@ pub fn rounded(q: u32, a: i64, text: &mut [u8], at: usize) -> usize
 // 4: an entry of the tensor
 pub fn tensor(q: u32, x: i64, y: i64, text: &mut [u8], at: usize) -> usize
     requires { ⌜ Modulus q ⌝ }
+    ensures { λ r. ⌜ Placed r (now (text .entry)) (now (text .exit)) ⌝ }
 {
     if !all_residues(&[x, y], q) {
         return print::refused(text, at);

@@ -1,4 +1,5 @@
 // Encryption and decryption. Each takes the call's numbers, and puts its answer into the text.
+ghost use Rattle.stream.specs.Bounds.{Placed};
 use crate::lent;
 use crate::print;
 use crate::read::SHORT;
@@ -15,13 +16,17 @@ fn put_encrypted(
     mask: &[i64],
     error: i64,
     out: &mut [i64],
-) -> usize {
+) -> usize
+    ensures { λ r. ⌜ Placed r (now (text .entry)) (now (text .exit)) ⌝ }
+{
     let to = print::bounded(text, at, cipher::encrypt(p, s, bit, mask, error, out));
     print::entries(text, to, out)
 }
 
 // Call 7: a parameter set, a key, a bit, a mask, an error and the result as found.
-pub fn encrypt(call: &[i64], text: &mut [u8], at: usize) -> usize {
+pub fn encrypt(call: &[i64], text: &mut [u8], at: usize) -> usize
+    ensures { λ r. ⌜ Placed r (now (text .entry)) (now (text .exit)) ⌝ }
+{
     let mut s = [0i32; SHORT];
     let mut out = [0i64; SHORT];
     let p = lent::params(call);
@@ -38,7 +43,9 @@ pub fn encrypt(call: &[i64], text: &mut [u8], at: usize) -> usize {
 }
 
 // Call 8: a parameter set, a key and a ciphertext.
-pub fn decrypt(call: &[i64], text: &mut [u8], at: usize) -> usize {
+pub fn decrypt(call: &[i64], text: &mut [u8], at: usize) -> usize
+    ensures { λ r. ⌜ Placed r (now (text .entry)) (now (text .exit)) ⌝ }
+{
     let mut s = [0i32; SHORT];
     let p = lent::params(call);
     let c = lent::list(call, lent::past(call, 6));

@@ -1,4 +1,5 @@
 // Single gates. Each takes the call's numbers, and puts its answer into the text.
+ghost use Rattle.stream.specs.Bounds.{Placed};
 use crate::lent;
 use crate::print;
 use crate::read::MIDDLE;
@@ -16,13 +17,17 @@ fn put_xor(
     d: &[i64],
     b2: u32,
     out: &mut [i64],
-) -> usize {
+) -> usize
+    ensures { λ r. ⌜ Placed r (now (text .entry)) (now (text .exit)) ⌝ }
+{
     let to = print::bounded(text, at, gates::xor(p, c, b1, d, b2, out));
     print::entries(text, to, out)
 }
 
 // Call 9: a parameter set, two ciphertexts, each with its bound, and the result as found.
-pub fn xor(call: &[i64], text: &mut [u8], at: usize) -> usize {
+pub fn xor(call: &[i64], text: &mut [u8], at: usize) -> usize
+    ensures { λ r. ⌜ Placed r (now (text .entry)) (now (text .exit)) ⌝ }
+{
     let mut out = [0i64; SHORT];
     let p = lent::params(call);
     let c = lent::list(call, 6);
@@ -38,13 +43,17 @@ pub fn xor(call: &[i64], text: &mut [u8], at: usize) -> usize {
 }
 
 // NOT into `out`; puts the answer and `out`.
-fn put_not(text: &mut [u8], at: usize, p: Params, c: &[i64], bound: u32, out: &mut [i64]) -> usize {
+fn put_not(text: &mut [u8], at: usize, p: Params, c: &[i64], bound: u32, out: &mut [i64]) -> usize
+    ensures { λ r. ⌜ Placed r (now (text .entry)) (now (text .exit)) ⌝ }
+{
     let to = print::bounded(text, at, gates::not(p, c, bound, out));
     print::entries(text, to, out)
 }
 
 // Call 10: a parameter set, a ciphertext, its bound and the result as found.
-pub fn not(call: &[i64], text: &mut [u8], at: usize) -> usize {
+pub fn not(call: &[i64], text: &mut [u8], at: usize) -> usize
+    ensures { λ r. ⌜ Placed r (now (text .entry)) (now (text .exit)) ⌝ }
+{
     let mut out = [0i64; SHORT];
     let p = lent::params(call);
     let c = lent::list(call, 6);
@@ -67,7 +76,9 @@ fn put_and(
     key: &[i64],
     scratch: &mut [i64],
     out: &mut [i64],
-) -> usize {
+) -> usize
+    ensures { λ r. ⌜ Placed r (now (text .entry)) (now (text .exit)) ⌝ }
+{
     let answer = gates::and(p, c, b1, d, b2, key, scratch, out);
     let to = print::bounded(text, at, answer);
     let end = print::entries(text, to, scratch);
@@ -76,7 +87,9 @@ fn put_and(
 
 // Call 11: a parameter set, two ciphertexts, each with its bound, a switching key, scratch and the
 // result, both as found.
-pub fn and(call: &[i64], text: &mut [u8], at: usize) -> usize {
+pub fn and(call: &[i64], text: &mut [u8], at: usize) -> usize
+    ensures { λ r. ⌜ Placed r (now (text .entry)) (now (text .exit)) ⌝ }
+{
     let mut scratch = [0i64; MIDDLE];
     let mut out = [0i64; SHORT];
     let p = lent::params(call);

@@ -1,4 +1,7 @@
 // The calls on keys. Each takes the call's numbers, and puts its answer into the text.
+ghost use mathlib.Core.Path.{_≡_};
+ghost use lib.ListN.{length};
+ghost use Rattle.stream.specs.Bounds.{Placed};
 use crate::lent;
 use crate::print;
 use crate::read::SHORT;
@@ -8,7 +11,9 @@ use regev::key;
 use regev::switching;
 
 // Call 3: a parameter set and a key.
-pub fn check_key(call: &[i64], text: &mut [u8], at: usize) -> usize {
+pub fn check_key(call: &[i64], text: &mut [u8], at: usize) -> usize
+    ensures { λ r. ⌜ Placed r (now (text .entry)) (now (text .exit)) ⌝ }
+{
     let mut s = [0i32; SHORT];
     let p = lent::params(call);
     let n = lent::key(call, 6, &mut s);
@@ -24,7 +29,9 @@ fn put_switching_key(
     masks: &[i64],
     errors: &[i64],
     out: &mut [i64],
-) -> usize {
+) -> usize
+    ensures { λ r. ⌜ Placed r (now (text .entry)) (now (text .exit)) ⌝ }
+{
     let answer = switching::make_switching_key(p, s, masks, errors, out);
     let to = print::refusal(text, at, answer);
     print::entries(text, to, out)
@@ -32,7 +39,10 @@ fn put_switching_key(
 
 // Call 4: a parameter set, a key, masks, errors and the switching key as found. The switching key
 // is made in a buffer that is lent.
-pub fn make_switching_key(call: &[i64], text: &mut [u8], at: usize, out: &mut [i64]) -> usize {
+pub fn make_switching_key(call: &[i64], text: &mut [u8], at: usize, out: &mut [i64]) -> usize
+    ensures { λ r. ⌜ Placed r (now (text .entry)) (now (text .exit)) ⌝ }
+    ensures { λ _. ⌜ length (now (out .exit)) ≡ length (now (out .entry)) ⌝ }
+{
     let mut s = [0i32; SHORT];
     let p = lent::params(call);
     let at_masks = lent::past(call, 6);
@@ -46,7 +56,9 @@ pub fn make_switching_key(call: &[i64], text: &mut [u8], at: usize, out: &mut [i
 }
 
 // Call 5: a key, masks and errors.
-pub fn check_bench_key(call: &[i64], text: &mut [u8], at: usize) -> usize {
+pub fn check_bench_key(call: &[i64], text: &mut [u8], at: usize) -> usize
+    ensures { λ r. ⌜ Placed r (now (text .entry)) (now (text .exit)) ⌝ }
+{
     let mut s = [0i32; SHORT];
     let at_masks = lent::past(call, 1);
     let masks = lent::list(call, at_masks);
@@ -56,7 +68,9 @@ pub fn check_bench_key(call: &[i64], text: &mut [u8], at: usize) -> usize {
 }
 
 // Call 6: a key, masks and errors.
-pub fn make_bench_key(call: &[i64], text: &mut [u8], at: usize) -> usize {
+pub fn make_bench_key(call: &[i64], text: &mut [u8], at: usize) -> usize
+    ensures { λ r. ⌜ Placed r (now (text .entry)) (now (text .exit)) ⌝ }
+{
     let mut s = [0i32; SHORT];
     let at_masks = lent::past(call, 1);
     let masks = lent::list(call, at_masks);

@@ -1,14 +1,16 @@
 // What a call in the store lends: its numbers and lists by their places in it. Every place will do:
 // beyond the call a number is 0 and a list empty.
-ghost use Prim.Native.Nat.{_≤_};
 ghost use mathlib.Core.Path.{_≡_};
-ghost use lib.ListN.{length};
-ghost use Rattle.stream.specs.Bounds.{Counts};
+ghost use mathlib.Core.List.{map};
+ghost use Rattle.replay.specs.Lent.{numberAt, wordAt, nextAt, listAt, pastAt, paramsAt, Took};
+ghost use Rattle.replay.specs.Width.{narrow as Width·narrow};
 use crate::width;
 use refusal::Params;
 
 // The number at a place.
-pub fn number(call: &[i64], at: usize) -> i64 {
+pub fn number(call: &[i64], at: usize) -> i64
+    ensures { λ r. ⌜ r ≡ numberAt (now (call .entry)) at ⌝ }
+{
     if at < call.len() {
         return call[at];
     }
@@ -16,12 +18,16 @@ pub fn number(call: &[i64], at: usize) -> i64 {
 }
 
 // The number at a place, where it is one of 32 bits from 0 up.
-pub fn word(call: &[i64], at: usize) -> u32 {
+pub fn word(call: &[i64], at: usize) -> u32
+    ensures { λ r. ⌜ r ≡ wordAt (now (call .entry)) at ⌝ }
+{
     width::word(number(call, at))
 }
 
 // The place after that of a number.
-pub fn next(call: &[i64], at: usize) -> usize {
+pub fn next(call: &[i64], at: usize) -> usize
+    ensures { λ r. ⌜ r ≡ nextAt (now (call .entry)) at ⌝ }
+{
     if at < call.len() {
         return at + 1;
     }
@@ -29,32 +35,34 @@ pub fn next(call: &[i64], at: usize) -> usize {
 }
 
 // The entries of the list whose count stands at a place.
-pub fn list(call: &[i64], at: usize) -> &[i64] {
+pub fn list(call: &[i64], at: usize) -> &[i64]
+    ensures { λ r. ⌜ now r ≡ listAt (now (call .entry)) at ⌝ }
+{
     let n = width::count(number(call, at));
     let from = next(call, at);
-    if from <= call.len() {
-        if n <= call.len() - from {
-            let end = from + n;
-            return &call[from..end];
-        }
+    if n <= call.len() - from {
+        let end = from + n;
+        return &call[from..end];
     }
     &call[0..0]
 }
 
 // The place after that list.
-pub fn past(call: &[i64], at: usize) -> usize {
+pub fn past(call: &[i64], at: usize) -> usize
+    ensures { λ r. ⌜ r ≡ pastAt (now (call .entry)) at ⌝ }
+{
     let n = width::count(number(call, at));
     let from = next(call, at);
-    if from <= call.len() {
-        if n <= call.len() - from {
-            return from + n;
-        }
+    if n <= call.len() - from {
+        return from + n;
     }
     call.len()
 }
 
 // A parameter set: n, q, L, E and F, which may be any numbers.
-pub fn params(call: &[i64]) -> Params {
+pub fn params(call: &[i64]) -> Params
+    ensures { λ r. ⌜ r ≡ paramsAt (now (call .entry)) ⌝ }
+{
     Params {
         n: word(call, 1),
         q: word(call, 2),
@@ -64,10 +72,10 @@ pub fn params(call: &[i64]) -> Params {
     }
 }
 
-// Copies the list at a place to the front of a buffer, and answers how many entries it has.
+// Copies the list at a place to the front of a buffer, and answers how many entries it has. A buffer
+// that has no room for it takes none of it.
 pub fn buffer(call: &[i64], at: usize, out: &mut [i64]) -> usize
-    ensures { λ r. ⌜ Counts r (now (out .exit)) ⌝ }
-    ensures { λ _. ⌜ length (now (out .exit)) ≡ length (now (out .entry)) ⌝ }
+    ensures { λ r. ⌜ Took (listAt (now (call .entry)) at) (now (out .entry)) r (now (out .exit)) ⌝ }
 {
     let xs = list(call, at);
     if xs.len() > out.len() {
@@ -79,10 +87,9 @@ pub fn buffer(call: &[i64], at: usize, out: &mut [i64]) -> usize
     xs.len()
 }
 
-// Copies the key at a place to the front of a buffer, and answers how many entries it has.
+// Copies the key at a place to the front of a buffer, in the same way.
 pub fn key(call: &[i64], at: usize, out: &mut [i32]) -> usize
-    ensures { λ r. ⌜ Counts r (now (out .exit)) ⌝ }
-    ensures { λ _. ⌜ length (now (out .exit)) ≡ length (now (out .entry)) ⌝ }
+    ensures { λ r. ⌜ Took (map Width·narrow (listAt (now (call .entry)) at)) (now (out .entry)) r (now (out .exit)) ⌝ }
 {
     let xs = list(call, at);
     if xs.len() > out.len() {

@@ -1,5 +1,7 @@
 // Reads calls from standard input and prints what each answers and leaves in its buffers: one line
 // a call, in the order of the calls. docs/REPLAY.md has the format.
+ghost use Rattle.stream.specs.Bounds.{Placed};
+
 mod ciphers;
 mod gate;
 mod keys;
@@ -16,7 +18,9 @@ use read::STORE;
 const CALLS: usize = 4294967296;
 
 // Does the call and puts its answer into the text. The numbers of calls are 1 to 11 (`read`).
-fn answer(call: &[i64], text: &mut [u8], at: usize, long: &mut [i64]) -> usize {
+fn answer(call: &[i64], text: &mut [u8], at: usize, long: &mut [i64]) -> usize
+    ensures { λ r. ⌜ Placed r (now (text .entry)) (now (text .exit)) ⌝ }
+{
     match lent::word(call, 0) {
         1 => sets::make(call, text, at),
         2 => sets::sheet(call, text, at),
@@ -34,7 +38,9 @@ fn answer(call: &[i64], text: &mut [u8], at: usize, long: &mut [i64]) -> usize {
 
 // One call after another, until the input ends or a call cannot be read. Answers how much of the
 // text is filled.
-fn calls(block: &mut [u8], store: &mut [i64], text: &mut [u8], long: &mut [i64]) -> usize {
+fn calls(block: &mut [u8], store: &mut [i64], text: &mut [u8], long: &mut [i64]) -> usize
+    ensures { λ r. ⌜ Placed r (now (text .entry)) (now (text .exit)) ⌝ }
+{
     let mut cursor = stream::start();
     let mut at = 0;
     for _ in 0..CALLS {

@@ -1,4 +1,7 @@
 // Printing what a call answered and what it left in the buffers that it may write.
+ghost use Prim.Native.Nat.{_≤_};
+ghost use lib.ListN.{length};
+ghost use Rattle.stream.specs.Bounds.{Placed};
 use refusal::Made;
 use refusal::Params;
 use refusal::Refusal;
@@ -6,14 +9,19 @@ use scheme::Bounded;
 use scheme::Decrypted;
 
 // Puts a number from 0 up.
-fn unsigned(text: &mut [u8], at: usize, x: u64) -> usize {
+fn unsigned(text: &mut [u8], at: usize, x: u64) -> usize
+    ensures { λ r. ⌜ Placed r (now (text .entry)) (now (text .exit)) ⌝ }
+{
     let mut digits = [0u8; 20];
     let k = io::decimal(x, &mut digits);
     stream::word(text, at, &digits[0..k])
 }
 
-// Puts the entries of a buffer.
-pub fn entries(text: &mut [u8], at: usize, xs: &[i64]) -> usize {
+// Puts the entries of a buffer. There may be none of them, so that the place has to lie in the text.
+pub fn entries(text: &mut [u8], at: usize, xs: &[i64]) -> usize
+    requires { ⌜ at ≤ length (now text) ⌝ }
+    ensures { λ r. ⌜ Placed r (now (text .entry)) (now (text .exit)) ⌝ }
+{
     let mut to = at;
     for i in 0..xs.len() {
         to = stream::put(text, to, xs[i]);
@@ -22,27 +30,35 @@ pub fn entries(text: &mut [u8], at: usize, xs: &[i64]) -> usize {
 }
 
 // Puts a number and its place.
-pub fn refusal(text: &mut [u8], at: usize, r: Refusal) -> usize {
+pub fn refusal(text: &mut [u8], at: usize, r: Refusal) -> usize
+    ensures { λ r. ⌜ Placed r (now (text .entry)) (now (text .exit)) ⌝ }
+{
     let to = unsigned(text, at, r.number as u64);
     unsigned(text, to, r.place)
 }
 
 // Puts a number, its place and a bound.
-pub fn bounded(text: &mut [u8], at: usize, r: Bounded) -> usize {
+pub fn bounded(text: &mut [u8], at: usize, r: Bounded) -> usize
+    ensures { λ r. ⌜ Placed r (now (text .entry)) (now (text .exit)) ⌝ }
+{
     let to = unsigned(text, at, r.number as u64);
     let after = unsigned(text, to, r.place);
     unsigned(text, after, r.bound as u64)
 }
 
 // Puts a number, its place and a bit.
-pub fn decrypted(text: &mut [u8], at: usize, r: Decrypted) -> usize {
+pub fn decrypted(text: &mut [u8], at: usize, r: Decrypted) -> usize
+    ensures { λ r. ⌜ Placed r (now (text .entry)) (now (text .exit)) ⌝ }
+{
     let to = unsigned(text, at, r.number as u64);
     let after = unsigned(text, to, r.place);
     unsigned(text, after, r.bit as u64)
 }
 
 // Puts n, q, L, E and F.
-fn params(text: &mut [u8], at: usize, p: Params) -> usize {
+fn params(text: &mut [u8], at: usize, p: Params) -> usize
+    ensures { λ r. ⌜ Placed r (now (text .entry)) (now (text .exit)) ⌝ }
+{
     let n = unsigned(text, at, p.n as u64);
     let q = unsigned(text, n, p.q as u64);
     let l = unsigned(text, q, p.l as u64);
@@ -51,7 +67,9 @@ fn params(text: &mut [u8], at: usize, p: Params) -> usize {
 }
 
 // Puts a number, its place and a parameter set, which is all zeros on a refusal.
-pub fn made(text: &mut [u8], at: usize, m: Made) -> usize {
+pub fn made(text: &mut [u8], at: usize, m: Made) -> usize
+    ensures { λ r. ⌜ Placed r (now (text .entry)) (now (text .exit)) ⌝ }
+{
     match m {
         Made::Set(p) => {
             let to = refusal(
@@ -82,7 +100,9 @@ pub fn made(text: &mut [u8], at: usize, m: Made) -> usize {
 }
 
 // Puts the four rows of a bench key.
-pub fn rows(text: &mut [u8], at: usize, key: [[i64; 16]; 4]) -> usize {
+pub fn rows(text: &mut [u8], at: usize, key: [[i64; 16]; 4]) -> usize
+    ensures { λ r. ⌜ Placed r (now (text .entry)) (now (text .exit)) ⌝ }
+{
     let mut to = at;
     for i in 0..4 {
         for j in 0..16 {

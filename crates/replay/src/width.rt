@@ -1,8 +1,12 @@
 // Numbers of 64 bits as narrower ones. What was read lies within its width (`read`), so that the 0
 // of a number outside it is never seen; it is there so that each function takes any number.
+ghost use mathlib.Core.Path.{_≡_};
+ghost use Rattle.replay.specs.Width.{narrow as Width·narrow, word as Width·word};
 
 // A number of 32 bits, from 0 up.
-pub fn word(x: i64) -> u32 {
+pub fn word(x: i64) -> u32
+    ensures { λ r. ⌜ r ≡ Width·word x ⌝ }
+{
     if x < 0 {
         return 0;
     }
@@ -13,7 +17,9 @@ pub fn word(x: i64) -> u32 {
 }
 
 // A signed number of 32 bits.
-pub fn narrow(x: i64) -> i32 {
+pub fn narrow(x: i64) -> i32
+    ensures { λ r. ⌜ r ≡ Width·narrow x ⌝ }
+{
     if x < -2147483648 {
         return 0;
     }
@@ -24,6 +30,8 @@ pub fn narrow(x: i64) -> i32 {
 }
 
 // A count: none that is read is as large as 2^32.
-pub fn count(x: i64) -> usize {
+pub fn count(x: i64) -> usize
+    ensures { λ r. ⌜ r ≡ Width·word x ⌝ }
+{
     word(x) as usize
 }

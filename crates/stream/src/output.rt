@@ -7,6 +7,7 @@ ghost use Prim.Native.Nat.{_+_, _≤_};
 ghost use mathlib.Core.Path.{_≡_};
 ghost use lib.IntN.{natAbs};
 ghost use lib.ListN.{length};
+ghost use Rattle.stream.specs.Bounds.{Placed};
 
 // The most bytes that a number takes, with its sign and the space after it, and a few more.
 const WIDEST: usize = 24;
@@ -14,8 +15,7 @@ const WIDEST: usize = 24;
 // Puts the decimal digits of `x`, after a `-` if it is negative, and a space. Where fewer than
 // WIDEST bytes are free the block is written first; a block that is shorter takes no number.
 pub fn put(out: &mut [u8], at: usize, x: i64) -> usize
-    ensures { λ r. ⌜ r ≤ length (now (out .exit)) ⌝ }
-    ensures { λ _. ⌜ length (now (out .exit)) ≡ length (now (out .entry)) ⌝ }
+    ensures { λ r. ⌜ Placed r (now (out .entry)) (now (out .exit)) ⌝ }
 {
     let mut text = [0u8; 20];
     let k = io::decimal(size(x), &mut text);
@@ -32,8 +32,7 @@ pub fn put(out: &mut [u8], at: usize, x: i64) -> usize
 
 // Puts a line feed.
 pub fn end_line(out: &mut [u8], at: usize) -> usize
-    ensures { λ r. ⌜ r ≤ length (now (out .exit)) ⌝ }
-    ensures { λ _. ⌜ length (now (out .exit)) ≡ length (now (out .entry)) ⌝ }
+    ensures { λ r. ⌜ Placed r (now (out .entry)) (now (out .exit)) ⌝ }
 {
     let to = room(out, at, 1);
     if to < out.len() {
@@ -46,8 +45,7 @@ pub fn end_line(out: &mut [u8], at: usize) -> usize
 // Puts a word and a space. Where they do not fit after `at` the block is written first; a block
 // that cannot hold them takes none of them.
 pub fn word(out: &mut [u8], at: usize, text: &[u8]) -> usize
-    ensures { λ r. ⌜ r ≤ length (now (out .exit)) ⌝ }
-    ensures { λ _. ⌜ length (now (out .exit)) ≡ length (now (out .entry)) ⌝ }
+    ensures { λ r. ⌜ Placed r (now (out .entry)) (now (out .exit)) ⌝ }
 {
     let n = text.len();
     let from = room(out, at, n + 1);

@@ -8,10 +8,10 @@ use Rattle.edges.proofs.run.Statement.{statement}
 use Rattle.edges.proofs.run.Tie as tie
 
 abbrev Inv-loop : tie.InvT-loop
-Inv-loop block₀ left₀ right₀ space₀ text₀ cursor₀ at₀ counter₀ block left right space text cursor at counter = (length block ≡ length block₀) × (length left ≡ length left₀) × (length right ≡ length right₀) × (length space ≡ length space₀) × (length text ≡ length text₀) × (counter ≤ 65536)
+Inv-loop block₀ left₀ right₀ text₀ cursor₀ at₀ counter₀ block left right text cursor at counter = (length block ≡ length block₀) × (length left ≡ length left₀) × (length right ≡ length right₀) × (length text ≡ length text₀) × (counter ≤ 65536)
 
 abbrev μ-loop : tie.MeasureT-loop
-μ-loop block₀ left₀ right₀ space₀ text₀ cursor₀ at₀ counter₀ block left right space text cursor at counter = 65536 - counter
+μ-loop block₀ left₀ right₀ text₀ cursor₀ at₀ counter₀ block left right text cursor at counter = 65536 - counter
 
 start-requires : tie.Need-start-requires Inv-loop μ-loop
 start-requires c κs = tt
@@ -34,14 +34,11 @@ same-length-3 c = omega arith
 same-length-4 : tie.Need-same-length-4 Inv-loop μ-loop
 same-length-4 c = omega arith
 
-same-length-5 : tie.Need-same-length-5 Inv-loop μ-loop
-same-length-5 c = omega arith
-
 returns : tie.Need-returns Inv-loop μ-loop
 returns c = tt
 
 answer-requires : tie.Need-answer-requires Inv-loop μ-loop
-answer-requires c κs = c .before .before .before .before .before .before .before .before .before .before .before .read .ensures
+answer-requires c κs = c .before .before .before .before .before .before .before .before .before .before .read .ensures
 
 add-counter : tie.Need-add-counter Inv-loop μ-loop
 add-counter c = omega arith
@@ -52,6 +49,9 @@ loop-less c = omega arith
 loop-again : tie.Need-loop-again Inv-loop μ-loop
 loop-again c = omega arith
 
+same-length-5 : tie.Need-same-length-5 Inv-loop μ-loop
+same-length-5 c = omega arith
+
 same-length-6 : tie.Need-same-length-6 Inv-loop μ-loop
 same-length-6 c = omega arith
 
@@ -60,12 +60,6 @@ same-length-7 c = omega arith
 
 same-length-8 : tie.Need-same-length-8 Inv-loop μ-loop
 same-length-8 c = omega arith
-
-same-length-9 : tie.Need-same-length-9 Inv-loop μ-loop
-same-length-9 c = omega arith
-
-same-length-10 : tie.Need-same-length-10 Inv-loop μ-loop
-same-length-10 c = omega arith
 
 returns-2 : tie.Need-returns-2 Inv-loop μ-loop
 returns-2 c = tt
@@ -83,15 +77,13 @@ run-spec =
     same-length-2
     same-length-3
     same-length-4
-    same-length-5
     returns
     answer-requires
     add-counter
     loop-less
     loop-again
+    same-length-5
     same-length-6
     same-length-7
     same-length-8
-    same-length-9
-    same-length-10
     returns-2)

@@ -8,7 +8,7 @@ use Rattle.replay.proofs.calls.Statement.{statement}
 use Rattle.replay.proofs.calls.Tie as tie
 
 abbrev Inv-loop : tie.InvT-loop
-Inv-loop block₀ store₀ text₀ long₀ cursor₀ at₀ counter₀ block store text long cursor at counter = (counter ≤ 4294967296) × (length block ≡ length block₀) × (length store ≡ length store₀) × (length text ≡ length text₀) × (length long ≡ length long₀)
+Inv-loop block₀ store₀ text₀ long₀ cursor₀ at₀ counter₀ block store text long cursor at counter = (counter ≤ 4294967296) × (at ≤ length text) × (length block ≡ length block₀) × (length store ≡ length store₀) × (length text ≡ length text₀) × (length long ≡ length long₀)
 
 abbrev μ-loop : tie.MeasureT-loop
 μ-loop block₀ store₀ text₀ long₀ cursor₀ at₀ counter₀ block store text long cursor at counter = 4294967296 - counter

@@ -17,13 +17,10 @@ returns : tie.Need-returns
 returns c = search needs
 
 modulo-requires : tie.Need-modulo-requires
-modulo-requires c κs = c .before .before .before .modulus .ensures (omega arith)
+modulo-requires c κs = c .before .before .modulus .ensures .1 (omega arith)
 
 same-length-2 : tie.Need-same-length-2
 same-length-2 c = search needs
-
-same-length-3 : tie.Need-same-length-3
-same-length-3 c = search needs
 
 returns-2 : tie.Need-returns-2
 returns-2 c = search needs
@@ -38,5 +35,4 @@ by-modulus-spec =
     returns
     modulo-requires
     same-length-2
-    same-length-3
     returns-2)

@@ -1,27 +1,30 @@
--- `guard::all_up_to` answers true where every entry is at most `most` in size. The invariant: every entry passed is. Leans on what `is_up_to` ensures. Assumes nothing.
-use mathlib.Core.Bool.{true≢false}
-use mathlib.Core.Path.{_≡_, sym}
-use Prim.Native.Nat.{ℕ, _≤_, _<_, _-_}
+-- `guard::all_up_to` tests every entry. The invariant: every entry passed is at most `most` in size. Leans on what `is_up_to` ensures. Assumes nothing.
+use mathlib.Core.Path.{_≡_, refl, sym, _∙_}
+use mathlib.Core.Bool.{Bool, true, false}
+use Prim.Native.Nat.{_≤_, _-_}
 use native.Mathlib.Omega.{arith}
-use lib.IntN.{pos, natAbs}
-use lib.ListN.{length, getD}
+use lib.IntN.{ℤ, pos}
+use lib.ListN.{length, getD, take}
 use mir.Facts.{toZ-ofZ}
 use mir.Syntax.{w64}
-use borrow.Author.Count.{below-more}
+use mir.Val.{SFits}
 use borrow.Author.Needs.{sfits-of}
-use Rattle.whole.specs.Lists.{getD-each}
+use borrow.Author.Tests.{not-true}
+use Rattle.whole.specs.Lists.{all}
+use Rattle.edges.specs.Guard.{isUpTo, all-more, all-less, all-passed}
 use Rattle.edges.proofs.Ranges.{passed}
 use Rattle.edges.proofs.guard.all_up_to.Statement.{statement}
 use Rattle.edges.proofs.guard.all_up_to.Tie as tie
 
 abbrev Inv-loop : tie.InvT-loop
-Inv-loop most xs i₀ i-end i = (i ≤ i-end) × (i-end ≡ length xs) × ((k : ℕ) → k < i → natAbs (getD xs k (pos 0)) ≤ most)
+Inv-loop most xs i₀ i-end i = (i ≤ i-end) × (i-end ≡ length xs) × (all (isUpTo most) (take i xs) ≡ true)
 
 abbrev μ-loop : tie.MeasureT-loop
 μ-loop most xs i₀ i-end i = i-end - i
 
 loop-holds : tie.Need-loop-holds Inv-loop μ-loop
-loop-holds c = (omega arith, omega arith, λ k l. absurd (omega arith))
+unfolding all
+loop-holds c = (omega arith, omega arith, refl)
 
 mul-is-up-to : tie.Need-mul-is-up-to Inv-loop μ-loop
 mul-is-up-to c = omega arith
@@ -32,8 +35,18 @@ shared-slice-copy-out-is-up-to c = omega arith
 is-up-to-requires : tie.Need-is-up-to-requires Inv-loop μ-loop
 is-up-to-requires c κs = tt
 
+-- what was told of the entry of the turn
+abbrev entry : tie.After-is-up-to Inv-loop μ-loop → ℤ
+entry c = getD (c .before .before .before .before .args .xs .now) (c .before .before .before .loop .i) (pos 0)
+
+fits : (c : tie.After-is-up-to Inv-loop μ-loop) → SFits w64 (entry c)
+fits c = sfits-of (c .before .is-up-to-arg .given)
+
 returns : tie.Need-returns Inv-loop μ-loop
-returns c = λ e. absurd (true≢false (sym e))
+returns c =
+    let s = c .before .before .before .before in
+    let told = simp (toZ-ofZ, fits (c .before)) at (sym (c .before .is-up-to .ensures)) in
+    sym (all-less (isUpTo (s .before .args .most)) (s .before .args .xs .now) (s .loop .i) (omega arith) (told ∙ not-true _ (c .if1 .taken)))
 
 add-i : tie.Need-add-i Inv-loop μ-loop
 add-i c = omega arith
@@ -43,11 +56,15 @@ loop-less c = omega arith
 
 loop-again : tie.Need-loop-again Inv-loop μ-loop
 loop-again c =
-    let small = c .before .is-up-to .ensures (passed _ (c .if1 .left)) in
-    (omega arith, omega arith, below-more _ _ (c .before .before .before .before .loop .inv .2) (simp (toZ-ofZ, sfits-of {w = w64} {z = getD (c .before .before .before .before .before .args .xs .now) (c .before .before .before .before .loop .i) (pos 0)} (c .before .before .is-up-to-arg .given)) at small))
+    let s = c .before .before .before .before in
+    let told = simp (toZ-ofZ, fits (c .before)) at (sym (c .before .is-up-to .ensures)) in (
+      omega arith,
+      omega arith,
+      all-more (isUpTo (s .before .args .most)) (s .before .args .xs .now) (s .loop .i) (omega arith) (s .loop .inv .2) (told ∙ passed _ (c .if1 .left)),
+    )
 
 returns-2 : tie.Need-returns-2 Inv-loop μ-loop
-returns-2 c = λ _. getD-each (pos 0) (λ k l. c .before .loop .inv .2 k (omega arith))
+returns-2 c = sym (all-passed (isUpTo (c .before .before .args .most)) (c .before .before .args .xs .now) (c .before .loop .i) (omega arith) (c .before .loop .inv .2))
 
 pub all-up-to-spec : {M : Type 1} → statement M
 all-up-to-spec =

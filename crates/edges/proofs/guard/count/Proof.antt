@@ -1,27 +1,35 @@
 -- `guard::count` casts a number from 0 to 65,536 alone. Assumes nothing.
+use mathlib.Core.Path.{_≡_}
+use mathlib.Core.Bool.{true}
 use native.Mathlib.Omega.{arith}
+use lib.IntN.{pos}
 use mir.Facts.{toZ-ofZ}
-use borrow.Author.Needs.{needs}
-use Rattle.edges.proofs.Ranges.{Between, between}
+use Rattle.stream.specs.Ranges.{inside, below, above, between, up-from}
+use Rattle.edges.specs.Guard.{asCount}
 use Rattle.edges.proofs.guard.count.Statement.{statement}
 use Rattle.edges.proofs.guard.count.Tie as tie
 
-range : (c : tie.Else2) → Between 0 65536 (c .before .before .args .x)
-range c =
+counted : (c : tie.Else2) → inside (pos 0) (pos 65536) (c .before .before .args .x) ≡ true
+counted c =
     let f = c .before .before .fits .x in
-    between 0 65536 _ (simp (toZ-ofZ, f) at (c .before .if1 .left)) (simp (toZ-ofZ, f) at (c .if2 .left))
+    between (pos 0) (pos 65536) _ (simp (toZ-ofZ, f) at (c .before .if1 .left)) (simp (toZ-ofZ, f) at (c .if2 .left))
 
 returns : tie.Need-returns
-returns c = search needs
+unfolding asCount
+returns c = rw (below (pos 0) (pos 65536) (c .before .args .x) (simp (toZ-ofZ, c .before .fits .x) at (c .if1 .taken)))
 
 returns-2 : tie.Need-returns-2
-returns-2 c = search needs
+unfolding asCount
+returns-2 c = rw (above (pos 0) (pos 65536) (c .before .before .args .x) (simp (toZ-ofZ, c .before .before .fits .x) at (c .if2 .taken)))
 
 cast-result : tie.Need-cast-result
-cast-result c = simp (toZ-ofZ, c .before .before .fits .x) (range c .up, omega (arith, range c .most))
+cast-result c =
+    let r = up-from 0 65536 _ (counted c) in
+    simp (toZ-ofZ, c .before .before .fits .x) (r .up, omega (arith, r .most))
 
 returns-3 : tie.Need-returns-3
-returns-3 c = search needs
+unfolding asCount
+returns-3 c = simp (toZ-ofZ, c .before .before .fits .x) (rw (counted c))
 
 pub count-spec : {M : Type 1} → statement M
 count-spec = tie.close (tie.spec returns returns-2 cast-result returns-3)

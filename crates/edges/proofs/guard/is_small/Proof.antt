@@ -1,6 +1,5 @@
 -- `guard::is_small` compares the sum of sizes, which `sum_of_sizes` ensures, with 4,096. Assumes nothing.
 use borrow.Author.Needs.{needs}
-use borrow.Author.Tests.{leb-true}
 use Rattle.edges.proofs.guard.is_small.Statement.{statement}
 use Rattle.edges.proofs.guard.is_small.Tie as tie
 
@@ -8,7 +7,7 @@ sum-of-sizes-requires : tie.Need-sum-of-sizes-requires
 sum-of-sizes-requires c κs = search needs
 
 returns : tie.Need-returns
-returns c = λ e. rw (← c .sum-of-sizes .ensures) (leb-true _ _ e)
+returns c = rw (c .sum-of-sizes .ensures)
 
 pub is-small-spec : {M : Type 1} → statement M
 is-small-spec = tie.close (tie.spec sum-of-sizes-requires returns)

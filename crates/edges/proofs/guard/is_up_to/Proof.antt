@@ -1,11 +1,11 @@
 -- `guard::is_up_to` compares |x| with `most`. Below 0 it is one more than −(x+1), in steps that fit (`flips`), and from 0 up it is x. Assumes nothing.
 use native.Mathlib.Omega.{arith}
 use lib.IntN.{pos}
-use lib.Signed.{mag, _≤ℤ_, yes-nonNeg}
+use lib.Signed.{_≤ℤ_, yes-nonNeg}
 use mir.Facts.{toZ-ofZ}
-use borrow.Author.Tests.{ltb-true, leb-true}
 use Rattle.whole.specs.Tests.{ltZ-true, ltZ-false}
 use Rattle.whole.specs.Machine.{Flips, flips, mag-up}
+use Rattle.edges.specs.Guard.{isUpTo}
 use Rattle.edges.proofs.guard.is_up_to.Statement.{statement}
 use Rattle.edges.proofs.guard.is_up_to.Tie as tie
 
@@ -27,15 +27,17 @@ cast-result c =
     (simp (below c .value) (tt, omega (arith, c .before .fits .x .sfits)))
 
 returns : tie.Need-returns
+unfolding isUpTo
 returns c =
     simp (toZ-ofZ, c .before .fits .x, below c .next, below c .flip)
-    (simp (below c .value) (λ e. omega (arith, below c .size, ltb-true (mag (c .before .args .x)) (c .before .args .most) e)))
+    (simp (below c .value) (rw (below c .size)))
 
 cast-result-2 : tie.Need-cast-result-2
 cast-result-2 c = simp (toZ-ofZ, c .before .fits .x) (yes-nonNeg (above c), omega (arith, mag-up _ (above c), c .before .fits .x .sfits))
 
 returns-2 : tie.Need-returns-2
-returns-2 c = simp (toZ-ofZ, c .before .fits .x) (λ e. leb-true _ _ e)
+unfolding isUpTo
+returns-2 c = simp (toZ-ofZ, c .before .fits .x)
 
 pub is-up-to-spec : {M : Type 1} → statement M
 is-up-to-spec = tie.close (tie.spec add-result sub-result cast-result returns cast-result-2 returns-2)

@@ -1,26 +1,33 @@
--- `guard::narrow` stores below the length of `from` alone, so that as many entries stand at the front of `to`, and ends. The invariant: i is at
--- most that length, and `to` keeps its own. An entry is cast after the tests against both ends of 32 bits (`narrow-fits`). Assumes nothing.
-use mathlib.Core.Path.{_≡_}
+-- `guard::narrow` puts the entries of `from` at the front of `to`, up to the first that is no number of 32 bits. The invariant: those passed are, and
+-- they stand there (`Put`). An entry is cast after the tests against both ends of 32 bits (`narrow-fits`). Assumes nothing.
+use mathlib.Core.Path.{_≡_, refl, sym, _∙_}
+use mathlib.Core.Bool.{Bool, true, false}
 use Prim.Native.Nat.{_≤_, _-_}
 use native.Mathlib.Omega.{arith}
-use lib.IntN.{ℤ, pos}
-use lib.ListN.{getD, length, length-set}
+use lib.IntN.{ℤ, pos, negsuc}
+use lib.ListN.{getD, length, take}
 use mir.Facts.{toZ-ofZ}
 use mir.Syntax.{w64}
 use mir.Val.{SFits}
 use borrow.Author.Needs.{sfits-of}
-use Rattle.edges.proofs.Ranges.{narrow-fits, counts}
+use Rattle.whole.specs.Lists.{all}
+use Rattle.stream.specs.Bounds.{Counts}
+use Rattle.stream.specs.Front.{front, Put, put-none, put-more, put-all}
+use Rattle.stream.specs.Ranges.{isNarrow, below, above, between, narrow-fits}
+use Rattle.edges.specs.Guard.{leading, all-more, all-less, all-passed, leading-less, leading-all}
+use Rattle.edges.proofs.Ranges.{counts}
 use Rattle.edges.proofs.guard.narrow.Statement.{statement}
 use Rattle.edges.proofs.guard.narrow.Tie as tie
 
 abbrev Inv-loop : tie.InvT-loop
-Inv-loop from to₀ i₀ i-end to i = (i ≤ i-end) × (i-end ≡ length from) × (length to ≡ length to₀)
+Inv-loop from to₀ i₀ i-end to i = (i ≤ i-end) × (i-end ≡ length from) × Put from to₀ to i × (all isNarrow (take i from) ≡ true)
 
 abbrev μ-loop : tie.MeasureT-loop
 μ-loop from to₀ i₀ i-end to i = i-end - i
 
 loop-holds : tie.Need-loop-holds Inv-loop μ-loop
-loop-holds c = omega arith
+unfolding all
+loop-holds c = (omega arith, omega arith, put-none _ _, refl)
 
 mul-x : tie.Need-mul-x Inv-loop μ-loop
 mul-x c = omega arith
@@ -28,26 +35,49 @@ mul-x c = omega arith
 shared-slice-copy-out-x : tie.Need-shared-slice-copy-out-x Inv-loop μ-loop
 shared-slice-copy-out-x c = omega arith
 
+-- the entry of the turn
+abbrev entry : tie.After-x Inv-loop μ-loop → ℤ
+entry c = getD (c .before .before .before .args .from .now) (c .before .before .loop .i) (pos 0)
+
+fits : (c : tie.After-x Inv-loop μ-loop) → SFits w64 (entry c)
+fits c = sfits-of (c .x .given)
+
+-- the loop stops at an entry that is no number of 32 bits
+abbrev Stopped : tie.After-x Inv-loop μ-loop → Type 0
+Stopped c =
+    let from = c .before .before .before .args .from .now in
+    let to = c .before .before .loop .to in
+    (false ≡ all isNarrow from) × ((to ≡ front (leading isNarrow from) (c .before .before .before .args .to .now)) × Counts (length from) to)
+
+stopped : (c : tie.After-x Inv-loop μ-loop) → isNarrow (entry c) ≡ false → Stopped c
+stopped c e =
+    let s = c .before .before in
+    let from = s .before .args .from .now in (
+      sym (all-less isNarrow from (s .loop .i) (omega arith) e),
+      (rw (leading-less isNarrow from (s .loop .i) (omega arith) (s .loop .inv .3) e) (s .loop .inv .2 .so-far), counts _ _ (omega (arith, s .loop .inv .2 .kept))),
+    )
+
+narrow : (c : tie.Else2 Inv-loop μ-loop) → isNarrow (entry (c .before .before)) ≡ true
+narrow c =
+    let f = fits (c .before .before) in
+    between (negsuc 2147483647) (pos 2147483647) _ (simp (toZ-ofZ, f) at (c .before .if1 .left)) (simp (toZ-ofZ, f) at (c .if2 .left))
+
 same-length : tie.Need-same-length Inv-loop μ-loop
 same-length c = omega arith
 
 returns : tie.Need-returns Inv-loop μ-loop
-returns c = counts _ _ (omega arith)
+returns c =
+    stopped (c .before) (below (negsuc 2147483647) (pos 2147483647) _ (simp (toZ-ofZ, fits (c .before)) at (c .if1 .taken)))
 
 same-length-2 : tie.Need-same-length-2 Inv-loop μ-loop
 same-length-2 c = omega arith
 
 returns-2 : tie.Need-returns-2 Inv-loop μ-loop
-returns-2 c = counts _ _ (omega arith)
-
--- the entry of the turn
-abbrev entry : tie.Else2 Inv-loop μ-loop → ℤ
-entry c = getD (c .before .before .before .before .before .args .from .now) (c .before .before .before .before .loop .i) (pos 0)
+returns-2 c =
+    stopped (c .before .before) (above (negsuc 2147483647) (pos 2147483647) _ (simp (toZ-ofZ, fits (c .before .before)) at (c .if2 .taken)))
 
 cast-to : tie.Need-cast-to Inv-loop μ-loop
-cast-to c =
-    let f : SFits w64 (entry c) = sfits-of (c .before .before .x .given) in
-    simp (toZ-ofZ, f) (narrow-fits _ (simp (toZ-ofZ, f) at (c .before .if1 .left)) (simp (toZ-ofZ, f) at (c .if2 .left)))
+cast-to c = simp (toZ-ofZ, fits (c .before .before)) (narrow-fits _ (narrow c))
 
 mul-t7 : tie.Need-mul-t7 Inv-loop μ-loop
 mul-t7 c = omega arith
@@ -62,13 +92,23 @@ loop-less : tie.Need-loop-less Inv-loop μ-loop
 loop-less c = omega arith
 
 loop-again : tie.Need-loop-again Inv-loop μ-loop
-loop-again c = simp length-set (omega arith)
+loop-again c =
+    let s = c .before .before .before .before in
+    let from = s .before .args .from .now in (
+      omega arith,
+      omega arith,
+      put-more (s .loop .inv .2) _ (pos 0) (omega arith) (omega arith) (simp (toZ-ofZ, fits (c .before .before), narrow-fits (entry (c .before .before)) (narrow c))),
+      all-more isNarrow from (s .loop .i) (omega arith) (s .loop .inv .3) (narrow c),
+    )
 
 same-length-3 : tie.Need-same-length-3 Inv-loop μ-loop
 same-length-3 c = omega arith
 
 returns-3 : tie.Need-returns-3 Inv-loop μ-loop
-returns-3 c = counts _ _ (omega arith)
+returns-3 c =
+    let from = c .before .before .args .from .now in
+    let e = all-passed isNarrow from (c .before .loop .i) (omega arith) (c .before .loop .inv .3) in
+    (sym e, (rw (leading-all isNarrow from e) (put-all (c .before .loop .inv .2) (omega arith)), counts _ _ (omega (arith, c .before .loop .inv .2 .kept))))
 
 pub narrow-spec : {M : Type 1} → statement M
 narrow-spec =

@@ -1,7 +1,10 @@
 -- `key::column_of` calls `inner_column` where its tests passed: j is below the width, the table has a row for each entry of the key, the key is small, and
 -- so is every entry of the table. Assumes nothing.
+use mathlib.Core.Path.{sym, _∙_}
 use native.Mathlib.Omega.{arith}
 use borrow.Author.Needs.{needs}
+use borrow.Author.Tests.{leb-true}
+use Rattle.edges.specs.Guard.{up-to}
 use Rattle.edges.proofs.Ranges.{passed, product-fits}
 use Rattle.edges.proofs.key.column_of.Statement.{statement}
 use Rattle.edges.proofs.key.column_of.Tie as tie
@@ -64,8 +67,8 @@ inner-column-requires : tie.Need-inner-column-requires
 inner-column-requires c κs = (
   omega arith,
   omega arith,
-  c .before .before .before .before .is-small .ensures (passed _ (c .before .before .before .if4 .left)),
-  c .before .before .all-up-to .ensures (passed _ (c .before .if5 .left)),
+  leb-true _ _ (sym (c .before .before .before .before .is-small .ensures) ∙ passed _ (c .before .before .before .if4 .left)),
+  up-to _ _ (sym (c .before .before .all-up-to .ensures) ∙ passed _ (c .before .if5 .left)),
 )
 
 one-requires : tie.Need-one-requires

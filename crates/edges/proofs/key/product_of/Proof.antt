@@ -1,6 +1,9 @@
 -- `key::product_of` calls `inner_product` where its tests passed: the lengths are one, the key is small, and so is every entry. Assumes nothing.
+use mathlib.Core.Path.{sym, _∙_}
 use native.Mathlib.Omega.{arith}
 use borrow.Author.Needs.{needs}
+use borrow.Author.Tests.{leb-true}
+use Rattle.edges.specs.Guard.{up-to}
 use Rattle.edges.proofs.Ranges.{passed}
 use Rattle.edges.proofs.key.product_of.Statement.{statement}
 use Rattle.edges.proofs.key.product_of.Tie as tie
@@ -39,8 +42,11 @@ returns-3 : tie.Need-returns-3
 returns-3 c = search needs
 
 inner-product-requires : tie.Need-inner-product-requires
-inner-product-requires c κs =
-    (omega arith, c .before .before .before .before .is-small .ensures (passed _ (c .before .before .before .if2 .left)), c .before .before .all-up-to .ensures (passed _ (c .before .if3 .left)))
+inner-product-requires c κs = (
+  omega arith,
+  leb-true _ _ (sym (c .before .before .before .before .is-small .ensures) ∙ passed _ (c .before .before .before .if2 .left)),
+  up-to _ _ (sym (c .before .before .all-up-to .ensures) ∙ passed _ (c .before .if3 .left)),
+)
 
 one-requires : tie.Need-one-requires
 one-requires c κs = search needs

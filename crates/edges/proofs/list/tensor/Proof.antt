@@ -1,8 +1,9 @@
--- `list::tensor` calls `fill_tensor` where its tests passed: both lists have at most 1,024 entries, all of them residues, and the part of `space` that is lent
+-- `list::tensor` calls `fill_tensor` where its tests passed: both lists have at most 1,024 entries, all of them residues, and the part of `made` that is lent
 -- has as many entries as the tensor. Assumes nothing.
 use mathlib.Core.Path.{sym, _∙_}
 use native.Mathlib.Omega.{arith}
 use borrow.Author.Needs.{needs}
+use Rattle.whole.specs.Lists.{put-holds}
 use Rattle.edges.proofs.Ranges.{passed, product-fits, part-length}
 use Rattle.edges.proofs.list.tensor.Statement.{statement}
 use Rattle.edges.proofs.list.tensor.Tie as tie
@@ -64,11 +65,11 @@ returns-5 c = search needs
 sub-fill-tensor : tie.Need-sub-fill-tensor
 sub-fill-tensor c = search needs
 
-part-fill-tensor-start : tie.Need-part-fill-tensor-start
-part-fill-tensor-start c = search needs
+part-made-start : tie.Need-part-made-start
+part-made-start c = search needs
 
-part-fill-tensor-end : tie.Need-part-fill-tensor-end
-part-fill-tensor-end c = search needs
+part-made-end : tie.Need-part-made-end
+part-made-end c = search needs
 
 fill-tensor-requires : tie.Need-fill-tensor-requires
 fill-tensor-requires c κs = (
@@ -87,16 +88,15 @@ part-all-start : tie.Need-part-all-start
 part-all-start c = search needs
 
 part-all-end : tie.Need-part-all-end
-part-all-end c = search needs
+part-all-end c =
+    let f = c .before .before .before in
+    put-holds _ (f .fill-tensor .last .1 .1 .1 .0) _ (f .fill-tensor .kept .1 .1 .1 .0 ∙ part-length _ _ (omega arith))
 
 all-requires : tie.Need-all-requires
 all-requires c κs = search needs
 
 same-length-6 : tie.Need-same-length-6
 same-length-6 c = search needs
-
-same-length-7 : tie.Need-same-length-7
-same-length-7 c = search needs
 
 returns-6 : tie.Need-returns-6
 returns-6 c = search needs
@@ -124,13 +124,12 @@ tensor-spec =
     same-length-5
     returns-5
     sub-fill-tensor
-    part-fill-tensor-start
-    part-fill-tensor-end
+    part-made-start
+    part-made-end
     fill-tensor-requires
     sub-all
     part-all-start
     part-all-end
     all-requires
     same-length-6
-    same-length-7
     returns-6)

@@ -1,15 +1,16 @@
 -- `list::within` casts a limit from 0 to 2^32−1 alone. Assumes nothing.
 use native.Mathlib.Omega.{arith}
+use lib.IntN.{pos}
 use mir.Facts.{toZ-ofZ}
 use borrow.Author.Needs.{needs}
-use Rattle.edges.proofs.Ranges.{Between, between}
+use Rattle.stream.specs.Ranges.{UpFrom, up-from, between}
 use Rattle.edges.proofs.list.within.Statement.{statement}
 use Rattle.edges.proofs.list.within.Tie as tie
 
-range : (c : tie.Else2) → Between 0 4294967295 (c .before .before .before .args .limit)
+range : (c : tie.Else2) → UpFrom 0 4294967295 (c .before .before .before .args .limit)
 range c =
     let f = c .before .before .before .fits .limit in
-    between 0 4294967295 _ (simp (toZ-ofZ, f) at (c .before .if1 .left)) (simp (toZ-ofZ, f) at (c .if2 .left))
+    up-from 0 4294967295 _ (between (pos 0) (pos 4294967295) _ (simp (toZ-ofZ, f) at (c .before .if1 .left)) (simp (toZ-ofZ, f) at (c .if2 .left)))
 
 refused-requires : tie.Need-refused-requires
 refused-requires c κs = search needs

@@ -1,5 +1,7 @@
 -- `number::rounded` calls `round_quotient` where `is_up_to` answered that a is at most 2^62 in size. Assumes nothing.
+use mathlib.Core.Path.{sym, _∙_}
 use borrow.Author.Needs.{needs}
+use Rattle.edges.specs.Guard.{at-most}
 use Rattle.edges.proofs.Ranges.{passed}
 use Rattle.edges.proofs.number.rounded.Statement.{statement}
 use Rattle.edges.proofs.number.rounded.Tie as tie
@@ -17,7 +19,7 @@ returns : tie.Need-returns
 returns c = search needs
 
 round-quotient-requires : tie.Need-round-quotient-requires
-round-quotient-requires c κs = (c .before .before .before .before .pre, c .before .before .is-up-to .ensures (passed _ (c .before .if1 .left)))
+round-quotient-requires c κs = (c .before .before .before .before .pre, at-most _ _ (sym (c .before .before .is-up-to .ensures) ∙ passed _ (c .before .if1 .left)))
 
 one-requires : tie.Need-one-requires
 one-requires c κs = search needs

@@ -1,14 +1,23 @@
 -- `lent::key` copies a list's entries, each narrowed, to the front of a buffer that has room for them, and answers their count. The invariant:
--- the buffer keeps its length, which is at least the list's; the measure is how many entries are left.
+-- those passed stand there (`Put`); the measure is how many entries are left. Assumes nothing.
 use Prim.Native.Nat.{_≤_, _-_}
-use mathlib.Core.Path.{_≡_}
+use mathlib.Core.Path.{_≡_, sym, _∙_}
+use mathlib.Core.List.{map}
 use native.Mathlib.Omega.{arith}
-use lib.ListN.{length, length-set, length-take}
+use lib.IntN.{pos}
+use lib.ListN.{length, getD, length-map}
+use mir.Facts.{toZ-ofZ}
+use mir.Syntax.{w32, w64}
+use borrow.Author.Needs.{sfits-of}
+use Rattle.whole.specs.Lists.{getD-map}
+use Rattle.stream.specs.Front.{Put, put-none, put-more, put-all}
+use Rattle.replay.specs.Lent.{took-none, took-all}
+use Rattle.replay.specs.Width.{narrow}
 use Rattle.replay.proofs.lent.key.Statement.{statement}
 use Rattle.replay.proofs.lent.key.Tie as tie
 
 abbrev Inv-loop : tie.InvT-loop
-Inv-loop call at out₀ xs i₀ i-end out i = (i-end ≡ length xs) × (i ≤ i-end) × (length xs ≤ length out₀) × (length out ≡ length out₀)
+Inv-loop call at out₀ xs i₀ i-end out i = (i-end ≡ length xs) × (i ≤ i-end) × (length xs ≤ length out₀) × Put (map narrow xs) out₀ out i
 
 abbrev μ-loop : tie.MeasureT-loop
 μ-loop call at out₀ xs i₀ i-end out i = i-end - i
@@ -17,10 +26,10 @@ list-requires : tie.Need-list-requires Inv-loop μ-loop
 list-requires c κs = tt
 
 returns : tie.Need-returns Inv-loop μ-loop
-returns c = ((omega arith, simp length-take (omega arith)), omega arith)
+returns c = rw (← c .before .list .ensures) (took-none _ _ (rw length-map (omega arith)))
 
 loop-holds : tie.Need-loop-holds Inv-loop μ-loop
-loop-holds c = omega arith
+loop-holds c = (omega arith, omega arith, omega arith, put-none _ _)
 
 mul-narrow : tie.Need-mul-narrow Inv-loop μ-loop
 mul-narrow c = omega arith
@@ -44,13 +53,23 @@ loop-less : tie.Need-loop-less Inv-loop μ-loop
 loop-less c = omega arith
 
 loop-again : tie.Need-loop-again Inv-loop μ-loop
-loop-again c = simp length-set (omega arith)
+loop-again c =
+    let s = c .before .before .before in
+    let xs = s .before .before .list .result .now in
+    let f = sfits-of {w = w64} {z = getD xs (s .loop .i) (pos 0)} (c .before .narrow-arg .given) in
+    let g = sfits-of {w = w32} {z = c .narrow .result} (c .narrow .ok) in
+    let e = (simp (toZ-ofZ, f) at (c .narrow .ensures)) ∙ sym (getD-map narrow xs (s .loop .i) (pos 0) (pos 0) (omega arith)) in
+    (omega arith, omega arith, omega arith, put-more (s .loop .inv .3) _ (pos 0) (rw length-map (omega arith)) (rw length-map (omega arith)) (simp (toZ-ofZ, g) e))
 
 same-length : tie.Need-same-length Inv-loop μ-loop
 same-length c = omega arith
 
 returns-2 : tie.Need-returns-2 Inv-loop μ-loop
-returns-2 c = ((omega arith, simp length-take (omega arith)), omega arith)
+returns-2 c =
+    let s = c .before in
+    let xs = s .before .before .list .result .now in
+    rw (← s .before .before .list .ensures)
+    (rw (length-map xs narrow) at (took-all (map narrow xs) _ _ (rw length-map (omega arith)) (s .loop .inv .3 .kept) (put-all (s .loop .inv .3) (rw length-map (omega arith)))))
 
 pub key-spec : {M : Type 1} → statement M
 key-spec =

@@ -1,5 +1,5 @@
--- `print::entries` reads below the buffer's length, and ends: the measure is how many entries are left. The invariant: the text
--- keeps its length.
+-- `print::entries` reads below the buffer's length, and ends: the measure is how many entries are left. The invariant: the place
+-- lies in the text, which keeps its length.
 use Prim.Native.Nat.{_≤_, _-_}
 use mathlib.Core.Path.{_≡_}
 use native.Mathlib.Omega.{arith}
@@ -8,7 +8,7 @@ use Rattle.replay.proofs.print.entries.Statement.{statement}
 use Rattle.replay.proofs.print.entries.Tie as tie
 
 abbrev Inv-loop : tie.InvT-loop
-Inv-loop text₀ at xs to₀ i₀ i-end text to i = (i-end ≡ length xs) × (i ≤ i-end) × (length text ≡ length text₀)
+Inv-loop text₀ at xs to₀ i₀ i-end text to i = (i-end ≡ length xs) × (i ≤ i-end) × (to ≤ length text) × (length text ≡ length text₀)
 
 abbrev μ-loop : tie.MeasureT-loop
 μ-loop text₀ at xs to₀ i₀ i-end text to i = i-end - i

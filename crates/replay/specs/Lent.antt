@@ -1,0 +1,73 @@
+-- What a call in the store lends, by its places in it, and what a buffer takes of a list. Assumes nothing.
+use mathlib.Core.Path.{_≡_, refl}
+use mathlib.Core.Bool.{cond, true, false}
+use mathlib.Core.List.{List, []}
+use Prim.Native.Nat.{ℕ, _+_, _≤_, _<_, min}
+use native.Mathlib.Omega.{arith}
+use lib.Dec.{leb}
+use lib.IntN.{ℤ, pos}
+use lib.ListN.{length, getD, take, drop}
+use borrow.Author.Tests.{le-leb, lt-leb}
+use Rattle.refusal.specs.declared.Params.{Params}
+use Rattle.refusal.specs.Parameters.{params}
+use Rattle.stream.specs.Bounds.{Counts}
+use Rattle.stream.specs.Front.{front, front-counts}
+use Rattle.replay.specs.Width.{word}
+
+-- the number at a place, and 0 beyond the call
+abbrev pub numberAt : List ℤ → ℕ → ℤ
+numberAt call at = getD call at (pos 0)
+
+-- as a number of 32 bits from 0 up
+abbrev pub wordAt : List ℤ → ℕ → ℕ
+wordAt call at = word (numberAt call at)
+
+-- the place after that of a number, which is the call's end at most
+abbrev pub nextAt : List ℤ → ℕ → ℕ
+nextAt call at = min (at + 1) (length call)
+
+-- the entries of the list whose count stands at a place, and none where the call ends before they do
+unfoldable pub listAt : List ℤ → ℕ → List ℤ
+listAt call at = cond (leb (nextAt call at + wordAt call at) (length call)) (take (wordAt call at) (drop (nextAt call at) call)) []
+
+pub list-within : (call : List ℤ) (at : ℕ) → nextAt call at + wordAt call at ≤ length call → take (wordAt call at) (drop (nextAt call at) call) ≡ listAt call at
+unfolding listAt
+list-within call at h = rw (le-leb (nextAt call at + wordAt call at) (length call) h)
+
+pub list-beyond : (call : List ℤ) (at : ℕ) → length call < nextAt call at + wordAt call at → listAt call at ≡ []
+unfolding listAt
+list-beyond call at h = rw (lt-leb (nextAt call at + wordAt call at) (length call) h)
+
+-- the place after that list, which is the call's end at most
+abbrev pub pastAt : List ℤ → ℕ → ℕ
+pastAt call at = min (nextAt call at + wordAt call at) (length call)
+
+-- n, q, L, E and F
+abbrev pub paramsAt : List ℤ → Params
+paramsAt call = params (wordAt call 1) (wordAt call 2) (wordAt call 3) (wordAt call 4) (wordAt call 5)
+
+-- ---- a list in a buffer
+
+module _ {A : Type 0} where
+  -- the list, where so many entries have room for it, and otherwise none
+  unfoldable pub fitting : ℕ → List A → List A
+  fitting room xs = cond (leb (length xs) room) xs []
+
+  -- what it tells that n entries were taken of xs into the buffer found, and out is left: the list at its front, the rest as found
+  abbrev pub Took : List A → List A → ℕ → List A → Type 0
+  Took xs found n out =
+      (n ≡ length (fitting (length found) xs)) × (out ≡ front (fitting (length found) xs) found) × Counts n out × (length out ≡ length found)
+
+  -- none of them, where there is no room
+  pub took-none : (xs found : List A) → length found < length xs → Took xs found 0 found
+  unfolding fitting front
+  took-none xs found h =
+      let e : leb (length xs) (length found) ≡ false = lt-leb (length xs) (length found) h in
+      (rw e, rw e, (omega arith, refl), refl)
+
+  -- and otherwise all
+  pub took-all : (xs found out : List A) → length xs ≤ length found → length out ≡ length found → out ≡ front xs found → Took xs found (length xs) out
+  unfolding fitting
+  took-all xs found out h l e =
+      let t : leb (length xs) (length found) ≡ true = le-leb (length xs) (length found) h in
+      (rw t, rw t e, rw e (front-counts xs found), l)
