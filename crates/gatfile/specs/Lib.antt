@@ -1,4 +1,9 @@
 pub mod File
+pub mod Fields
+pub mod Order
+pub mod Settled
 pub mod Text
+pub mod Writing
+pub mod Digits
 pub mod Wording
 pub mod Example

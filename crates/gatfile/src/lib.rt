@@ -1,1 +1,3 @@
-// The circuit file: definitions alone so far, in specs/.
+// The circuit file: what stands in it, its check, and planning on its bytes.
+mod field;
+mod head;

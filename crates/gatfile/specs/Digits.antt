@@ -1,0 +1,46 @@
+-- The digits of a number one after the other, how many there are, and how long the lines of the text are.
+use mathlib.Core.Path.{_≡_, refl, sym, ap, _∙_}
+use mathlib.Core.Bool.{Bool, true, false, cond}
+use mathlib.Core.List.{List, [], _∷_, _++_}
+use Prim.Native.Nat.{ℕ, zero, suc, _+_, _*_, _/_, _%_, _^_, _≤_, _<_}
+use native.Mathlib.Nat.{pow-suc, not-suc-le-zero, div-lt-iff-lt-mul, zero-lt-suc}
+use native.Mathlib.Omega.{arith}
+use lib.Dec.{ltb}
+use lib.ListN.{length, length-append}
+use borrow.Author.Tests.{ltb-true, ltb-false, lt-ltb, le-ltb}
+use Rattle.gatfile.specs.Text.{digitsUpTo, digits}
+
+-- any limit that is above the number will do
+enough : (m k x : ℕ) → x < m → x < k → digitsUpTo m x ≡ digitsUpTo k x
+unfolding digitsUpTo
+enough zero k x h g = absurd (not-suc-le-zero h)
+enough (suc m) zero x h g = absurd (not-suc-le-zero g)
+enough (suc m) (suc k) x h g = by-length (ltb x 10) refl (enough m k (x / 10))
+  where
+    by-length : (t : Bool) → ltb x 10 ≡ t → (x / 10 < m → x / 10 < k → digitsUpTo m (x / 10) ≡ digitsUpTo k (x / 10))
+        → cond t ((48 + x) ∷ []) (digitsUpTo m (x / 10) ++ ((48 + x % 10) ∷ [])) ≡ cond t ((48 + x) ∷ []) (digitsUpTo k (x / 10) ++ ((48 + x % 10) ∷ []))
+    by-length true e more = refl
+    by-length false e more =
+        let ten : 10 ≤ x = ltb-false x 10 e in
+        rw (more (omega arith) (omega arith))
+
+-- one digit
+pub digits-short : (x : ℕ) → x < 10 → digits x ≡ (48 + x) ∷ []
+unfolding digits digitsUpTo
+digits-short x h = rw (lt-ltb x 10 h)
+
+-- or the last after the others
+pub digits-long : (x : ℕ) → 10 ≤ x → digits x ≡ digits (x / 10) ++ ((48 + x % 10) ∷ [])
+unfolding digits digitsUpTo
+digits-long x h = rw (le-ltb x 10 h) (ap (λ (ds : List ℕ). ds ++ ((48 + x % 10) ∷ [])) (enough x (suc (x / 10)) (x / 10) (omega arith) (omega arith)))
+
+-- a number below a power of ten has no more digits than the power
+pub digits-few : (k x : ℕ) → x < 10 ^ suc k → length (digits x) ≤ suc k
+digits-few zero x h = rw (digits-short x (omega (arith, h, pow-suc 10 0))) (omega arith)
+digits-few (suc k) x h = by-length (ltb x 10) refl (digits-few k (x / 10))
+  where
+    by-length : (t : Bool) → ltb x 10 ≡ t → (x / 10 < 10 ^ suc k → length (digits (x / 10)) ≤ suc k) → length (digits x) ≤ suc (suc k)
+    by-length true e fewer = rw (digits-short x (ltb-true x 10 e)) (omega arith)
+    by-length false e fewer =
+        let below : x / 10 < 10 ^ suc k = omega (arith, h, pow-suc 10 (suc k)) in
+        rw (digits-long x (ltb-false x 10 e)) (omega (arith, fewer below, length-append (digits (x / 10)) ((48 + x % 10) ∷ [])))

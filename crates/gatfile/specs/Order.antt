@@ -1,0 +1,168 @@
+-- The file's own order of refusals: what each end of it answers, and what it tells that no row of the head applies.
+use mathlib.Core.Path.{_≡_, refl, sym, ap, ap₂, _∙_}
+use mathlib.Core.Logic.{_≢_}
+use mathlib.Core.Bool.{Bool, true, false, not, cond, _&&_, _||_}
+use mathlib.Core.List.{List, [], _∷_, _++_}
+use Prim.Native.Nat.{ℕ, _+_, _*_, _≤_, _<_}
+use native.Mathlib.Omega.{arith}
+use lib.Dec.{leb, ltb, eqb}
+use lib.ListN.{length}
+use borrow.Author.Tests.{ltb-true, ltb-false, leb-true, not-false, not-true, eqb-false, ne-eqb}
+use Rattle.whole.specs.Tests.{and-left, and-right, or-left, or-right}
+use Rattle.whole.specs.Lists.{all, length-tabulate}
+use Rattle.refusal.specs.declared.Refusal.{Refusal}
+use Rattle.refusal.specs.First.{Row, row, firstOf, firstTrue, Clear, first-front, first-rest, first-row, first-within}
+use Rattle.refusal.specs.Parameters.{refused, within, InRange}
+use Rattle.scheme.specs.Calls.{badParams, differs}
+use Rattle.scheme.specs.Passed.{params-in-range, length-is, lengths-same, differs-is}
+use Rattle.circuit.specs.Circuits.{badCounts, wrongGates, overGates, placeOf}
+use Rattle.circuit.specs.Answers.{inputs-within, gates-within}
+use Rattle.circuit.specs.Records.{length-wrongGates, length-overGates}
+use Rattle.gatfile.specs.File.{fileParams, fileInputs, fileGateCount, fileGates, fileInputBounds, headRows, fileGateRows, checkNumber, planNumber, filePlace}
+
+-- ---- rows whose numbers do not rise
+
+not-zero : {k : ℕ} → 0 < k → k ≢ 0
+not-zero h e = omega arith
+
+-- number 0 means that no row applies, where no row has the number 0
+pub first-none : (rows : List Row) → all (λ r. ltb 0 (r .number)) rows ≡ true → firstOf rows ≡ 0 → Clear rows
+unfolding firstOf all
+first-none [] t e = tt
+first-none (r ∷ rows) t e = by-test (r .applies) refl e (first-none rows (and-right (ltb 0 (r .number)) (all (λ r. ltb 0 (r .number)) rows) t))
+  where
+    above : 0 < r .number
+    above = ltb-true 0 (r .number) (and-left (ltb 0 (r .number)) (all (λ r. ltb 0 (r .number)) rows) t)
+
+    by-test : (t : Bool) → r .applies ≡ t → cond t (r .number) (firstOf rows) ≡ 0 → (firstOf rows ≡ 0 → Clear rows) → Clear (r ∷ rows)
+    by-test true f z later = absurd (not-zero above z)
+    by-test false f z later = (f, later z)
+
+-- the number given passes a test that 0 passes and the number of each row
+pub first-passes : (p : ℕ → Bool) (rows : List Row) → p 0 ≡ true → all (λ r. p (r .number)) rows ≡ true → p (firstOf rows) ≡ true
+unfolding firstOf all
+first-passes p [] z t = z
+first-passes p (r ∷ rows) z t =
+    by-test (r .applies) (and-left (p (r .number)) (all (λ r. p (r .number)) rows) t) (first-passes p rows z (and-right (p (r .number)) (all (λ r. p (r .number)) rows) t))
+  where
+    by-test : (t : Bool) → p (r .number) ≡ true → p (firstOf rows) ≡ true → p (cond t (r .number) (firstOf rows)) ≡ true
+    by-test true here later = here
+    by-test false here later = later
+
+-- ---- the place
+
+-- not the number of a gate
+abbrev pub ofNoGate : ℕ → Bool
+ofNoGate k = not (eqb k 9) && not (eqb k 10)
+
+pub place-none : (file : List ℕ) (k : ℕ) → ofNoGate k ≡ true → filePlace file k ≡ 0
+unfolding filePlace placeOf
+place-none file k t =
+    rw (not-true (eqb k 9) (and-left (not (eqb k 9)) (not (eqb k 10)) t), not-true (eqb k 10) (and-right (not (eqb k 9)) (not (eqb k 10)) t))
+
+-- ---- the head
+
+-- none of its rows applies
+pub record HeadRight (file : List ℕ) : Type 0 where
+  pub clear : Clear (headRows file)
+  pub enough : 23 ≤ length file
+  pub ranges : badParams (fileParams file) ≡ false
+  pub range : InRange (fileParams file)
+  pub counts : badCounts (fileInputs file) (fileGateCount file) ≡ false
+  pub inputs-high : fileInputs file ≤ 1024
+  pub gates-low : 1 ≤ fileGateCount file
+  pub gates-high : fileGateCount file ≤ 4096
+  pub long : length file ≡ 23 + 5 * fileGateCount file
+
+some-gate : (inputs gates : ℕ) → badCounts inputs gates ≡ false → 1 ≤ gates
+unfolding badCounts
+some-gate inputs gates e =
+    leb-true 1 gates (and-left (leb 1 gates) (leb gates 4096) (not-false (within 1 4096 gates) (or-right (not (within 1 1024 inputs)) (not (within 1 4096 gates)) e)))
+
+module _ (file : List ℕ) where
+  head-clear : firstOf (headRows file) ≡ 0 → Clear (headRows file)
+  unfolding headRows all
+  head-clear e = first-none (headRows file) refl e
+
+  pub head-right : firstOf (headRows file) ≡ 0 → HeadRight file
+  unfolding headRows
+  head-right e =
+      let t : Clear (headRows file) = head-clear e in
+      record {
+        clear = t;
+        enough = ltb-false (length file) 23 (t .0);
+        ranges = t .1 .1 .0;
+        range = params-in-range (fileParams file) (t .1 .1 .0);
+        counts = t .1 .1 .1 .0;
+        inputs-high = inputs-within (fileInputs file) (fileGateCount file) (t .1 .1 .1 .0);
+        gates-low = some-gate (fileInputs file) (fileGateCount file) (t .1 .1 .1 .0);
+        gates-high = gates-within (fileInputs file) (fileGateCount file) (t .1 .1 .1 .0);
+        long = length-is (length file) (23 + 5 * fileGateCount file) (t .1 .1 .1 .1 .0);
+      }
+
+  -- the place of a number of the head
+  pub head-place : filePlace file (firstOf (headRows file)) ≡ 0
+  unfolding headRows all
+  head-place = place-none file (firstOf (headRows file)) (first-passes ofNoGate (headRows file) refl refl)
+
+  -- ---- the answers, with number and place apart
+
+  abbrev pub answerOf : ℕ → Refusal
+  answerOf k = refused k (filePlace file k)
+
+  -- of the gates alone
+  unfoldable pub gateAnswer : Refusal
+  gateAnswer = answerOf (firstOf (fileGateRows file))
+
+  unfoldable pub checkRefusal : Refusal
+  checkRefusal = answerOf (checkNumber file)
+
+  unfoldable pub planRefusal : List ℕ → Refusal
+  planRefusal buffer = answerOf (planNumber file buffer)
+
+  -- the head refuses
+  module _ {n : ℕ} (e : n ≡ firstOf (headRows file)) (h : n ≢ 0) where
+    headed : (rest : List Row) → firstOf (headRows file ++ rest) ≡ n
+    headed rest = first-front (headRows file) rest (λ z. h (e ∙ z)) ∙ sym e
+
+    answered : (rest : List Row) → refused n 0 ≡ answerOf (firstOf (headRows file ++ rest))
+    answered rest = ap₂ refused (sym (headed rest)) (sym (ap (filePlace file) (headed rest ∙ e) ∙ head-place))
+
+    pub check-headed : refused n 0 ≡ checkRefusal
+    unfolding checkRefusal checkNumber
+    check-headed = answered (fileGateRows file)
+
+    pub plan-headed : (buffer : List ℕ) → refused n 0 ≡ planRefusal buffer
+    unfolding planRefusal planNumber
+    plan-headed buffer = answered _
+
+    pub plan-headed-number : (buffer : List ℕ) → planNumber file buffer ≢ 0
+    unfolding planNumber
+    plan-headed-number buffer z = h (sym (headed _) ∙ z)
+
+  -- or it does not
+  module _ (r : HeadRight file) where
+    pub check-gates : checkNumber file ≡ firstOf (fileGateRows file)
+    unfolding checkNumber
+    check-gates = first-rest (headRows file) (fileGateRows file) (r .clear)
+
+    pub check-settled : gateAnswer ≡ checkRefusal
+    unfolding gateAnswer checkRefusal
+    check-settled = ap answerOf (sym check-gates)
+
+    -- planning's buffer has another length
+    pub plan-short : (buffer : List ℕ) → differs (length buffer) (4 * (fileInputs file + fileGateCount file)) ≡ true → planNumber file buffer ≡ 3
+    unfolding planNumber firstOf
+    plan-short buffer d = first-rest (headRows file) _ (r .clear) ∙ rw d
+
+    pub plan-refused : (buffer : List ℕ) → differs (length buffer) (4 * (fileInputs file + fileGateCount file)) ≡ true → refused 3 0 ≡ planRefusal buffer
+    unfolding planRefusal
+    plan-refused buffer d = ap₂ refused (sym (plan-short buffer d)) (sym (ap (filePlace file) (plan-short buffer d) ∙ place-none file 3 refl))
+
+    pub plan-gates : (buffer : List ℕ) → differs (length buffer) (4 * (fileInputs file + fileGateCount file)) ≡ false → planNumber file buffer ≡ firstOf (fileGateRows file)
+    unfolding planNumber firstOf
+    plan-gates buffer d = first-rest (headRows file) _ (r .clear) ∙ rw d
+
+    pub plan-settled : (buffer : List ℕ) → differs (length buffer) (4 * (fileInputs file + fileGateCount file)) ≡ false → gateAnswer ≡ planRefusal buffer
+    unfolding gateAnswer planRefusal
+    plan-settled buffer d = ap answerOf (sym (plan-gates buffer d))

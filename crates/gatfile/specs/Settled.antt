@@ -1,0 +1,86 @@
+-- Planning over the gates of a file whose head is right: the file's gates as three lists, its inputs at bound E, and what planning then answers and
+-- leaves is what 9, 10 and the bounds of the file are.
+use mathlib.Core.Path.{_≡_, refl, sym, ap, ap₂, _∙_}
+use mathlib.Core.Bool.{true, false}
+use mathlib.Core.List.{List, [], _∷_, _++_}
+use Prim.Native.Nat.{ℕ, zero, suc, _+_, _*_, _≤_, _<_}
+use native.Mathlib.Omega.{arith}
+use lib.ListN.{length, take, drop, replicate, length-replicate, getD-replicate}
+use lib.Seq.{take-at}
+use Rattle.whole.specs.Tests.{or-neither}
+use Rattle.whole.specs.Lists.{tabulate, length-tabulate, all, getD-all}
+use Rattle.refusal.specs.First.{firstOf, doneOr}
+use Rattle.scheme.specs.Arithmetic.{fits}
+use Rattle.scheme.specs.Passed.{lengths-same, below-fits}
+use Rattle.circuit.specs.declared.Gate.{Gate}
+use Rattle.circuit.specs.Core.{gate, records, uneven, planCoreRows, planCoreAnswer, planCoreBounds}
+use Rattle.gatfile.specs.File.{fileParams, fileInputs, fileGateCount, fileGate, fileGates, fileInputBounds, fileBounds, fileGateRows, filePlace}
+use Rattle.gatfile.specs.Order.{HeadRight, gateAnswer}
+
+-- the kinds, the lefts and the rights of the gates
+unfoldable pub fileKinds : List ℕ → List ℕ
+fileKinds file = tabulate (fileGateCount file) (λ g. fileGate file g .kind)
+
+unfoldable pub fileLefts : List ℕ → List ℕ
+fileLefts file = tabulate (fileGateCount file) (λ g. fileGate file g .left)
+
+unfoldable pub fileRights : List ℕ → List ℕ
+fileRights file = tabulate (fileGateCount file) (λ g. fileGate file g .right)
+
+records-tabulate : (n : ℕ) (f : ℕ → Gate) → records (tabulate n (λ i. f i .kind)) (tabulate n (λ i. f i .left)) (tabulate n (λ i. f i .right)) ≡ tabulate n f
+unfolding records tabulate
+records-tabulate zero f = refl
+records-tabulate (suc n) f = ap (λ (gs : List Gate). f zero ∷ gs) (records-tabulate n (λ i. f (suc i)))
+
+-- the bounds of all wires where 9 and 10 let the file pass, and otherwise the table as it was
+unfoldable pub settledBounds : List ℕ → List ℕ → List ℕ
+settledBounds file table = doneOr (firstOf (fileGateRows file)) (fileBounds file) (fileInputBounds file ++ drop (fileInputs file) table)
+
+module _ (file : List ℕ) where
+  pub records-file : records (fileKinds file) (fileLefts file) (fileRights file) ≡ fileGates file
+  unfolding fileKinds fileLefts fileRights fileGates
+  records-file = records-tabulate (fileGateCount file) (fileGate file)
+
+  pub length-kinds : length (fileKinds file) ≡ fileGateCount file
+  unfolding fileKinds
+  length-kinds = length-tabulate (fileGateCount file) (λ g. fileGate file g .kind)
+
+  pub length-lefts : length (fileLefts file) ≡ fileGateCount file
+  unfolding fileLefts
+  length-lefts = length-tabulate (fileGateCount file) (λ g. fileGate file g .left)
+
+  pub length-rights : length (fileRights file) ≡ fileGateCount file
+  unfolding fileRights
+  length-rights = length-tabulate (fileGateCount file) (λ g. fileGate file g .right)
+
+  pub length-inputs : length (fileInputBounds file) ≡ fileInputs file
+  unfolding fileInputBounds
+  length-inputs = length-replicate (fileInputs file) (fileParams file .e)
+
+  -- each input's bound fits
+  inputs-fit : HeadRight file → all (fits (fileParams file .q)) (fileInputBounds file) ≡ true
+  unfolding fileInputBounds
+  inputs-fit r =
+      getD-all (fits (fileParams file .q)) (fileInputBounds file) 0
+      (λ i h.
+      let below : i < fileInputs file = rw length-inputs at h in
+      rw (getD-replicate (fileInputs file) i (fileParams file .e) 0 below) (below-fits (fileParams file .q) (fileParams file .e) (r .range .e-fits)))
+
+  module _ (r : HeadRight file) (Bs : List ℕ) (front : take (fileInputs file) Bs ≡ fileInputBounds file) (room : length Bs ≡ fileInputs file + fileGateCount file) where
+    even : uneven (fileKinds file) (fileLefts file) (fileRights file) ≡ false
+    unfolding uneven
+    even = or-neither (lengths-same _ _ (length-lefts ∙ sym length-kinds)) (lengths-same _ _ (length-rights ∙ sym length-kinds))
+
+    -- the rows of planning up to 8 do not apply, and so its number is that of the gates
+    number : firstOf (planCoreRows (fileParams file) (fileInputs file) (fileKinds file) (fileLefts file) (fileRights file) Bs) ≡ firstOf (fileGateRows file)
+    unfolding planCoreRows fileGateRows firstOf
+    number =
+        rw (r .ranges, length-kinds, r .counts, even, lengths-same _ _ room, front, inputs-fit r, records-file)
+
+    pub settled-answer : planCoreAnswer (fileParams file) (fileInputs file) (fileKinds file) (fileLefts file) (fileRights file) Bs ≡ gateAnswer file
+    unfolding planCoreAnswer gateAnswer filePlace
+    settled-answer = rw (number, records-file, front)
+
+    pub settled-bounds : planCoreBounds (fileParams file) (fileInputs file) (fileKinds file) (fileLefts file) (fileRights file) Bs ≡ doneOr (firstOf (fileGateRows file)) (fileBounds file) Bs
+    unfolding planCoreBounds fileBounds
+    settled-bounds = rw (number, records-file, front)
