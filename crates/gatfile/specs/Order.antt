@@ -3,7 +3,7 @@ use mathlib.Core.Path.{_≡_, refl, sym, ap, ap₂, _∙_}
 use mathlib.Core.Logic.{_≢_}
 use mathlib.Core.Bool.{Bool, true, false, not, cond, _&&_, _||_}
 use mathlib.Core.List.{List, [], _∷_, _++_}
-use Prim.Native.Nat.{ℕ, _+_, _*_, _≤_, _<_}
+use Prim.Native.Nat.{ℕ, zero, suc, _+_, _*_, _≤_, _<_}
 use native.Mathlib.Omega.{arith}
 use lib.Dec.{leb, ltb, eqb}
 use lib.ListN.{length}
@@ -18,7 +18,7 @@ use Rattle.scheme.specs.Passed.{params-in-range, length-is, lengths-same, diffe
 use Rattle.circuit.specs.Circuits.{badCounts, wrongGates, overGates, placeOf}
 use Rattle.circuit.specs.Answers.{inputs-within, gates-within}
 use Rattle.circuit.specs.Records.{length-wrongGates, length-overGates}
-use Rattle.gatfile.specs.File.{fileParams, fileInputs, fileGateCount, fileGates, fileInputBounds, headRows, fileGateRows, checkNumber, planNumber, filePlace}
+use Rattle.gatfile.specs.File.{fileParams, fileInputs, fileGateCount, fileGate, fileGates, fileInputBounds, headRows, fileGateRows, checkNumber, planNumber, filePlace}
 
 -- ---- rows whose numbers do not rise
 
@@ -104,6 +104,40 @@ module _ (file : List ℕ) where
   pub head-place : filePlace file (firstOf (headRows file)) ≡ 0
   unfolding headRows all
   head-place = place-none file (firstOf (headRows file)) (first-passes ofNoGate (headRows file) refl refl)
+
+  -- a place is a gate's, and so it is below 65,536
+  gate-place : fileGateCount file ≤ 4096 → (k : ℕ) → filePlace file k ≤ 4096
+  unfolding filePlace placeOf fileGates
+  gate-place h k = by-number (eqb k 9) (eqb k 10)
+    where
+      many : length (fileGates file) ≡ fileGateCount file
+      many = length-tabulate (fileGateCount file) (fileGate file)
+
+      wrong : List Bool
+      wrong = wrongGates (fileInputs file) (fileGates file)
+
+      over : List Bool
+      over = overGates (fileParams file) (fileGates file) (fileInputBounds file)
+
+      by-number : (s t : Bool) → cond s (firstTrue wrong) (cond t (firstTrue over) 0) ≤ 4096
+      by-number true t = omega (arith, first-within wrong, length-wrongGates (fileInputs file) (fileGates file), many)
+      by-number false true = omega (arith, first-within over, length-overGates (fileParams file) (fileGates file) (fileInputBounds file), many)
+      by-number false false = omega arith
+
+  small-place : (rest : List Row) → filePlace file (firstOf (headRows file ++ rest)) < 65536
+  small-place rest = by-number (firstOf (headRows file)) refl
+    where
+      by-number : (k : ℕ) → firstOf (headRows file) ≡ k → filePlace file (firstOf (headRows file ++ rest)) < 65536
+      by-number zero e = omega (arith, gate-place (head-right e .gates-high) (firstOf (headRows file ++ rest)))
+      by-number (suc k) e = rw (first-front (headRows file) rest (λ z. omega (arith, e, z)), head-place) (omega arith)
+
+  pub check-place : filePlace file (checkNumber file) < 65536
+  unfolding checkNumber
+  check-place = small-place (fileGateRows file)
+
+  pub plan-place : (buffer : List ℕ) → filePlace file (planNumber file buffer) < 65536
+  unfolding planNumber
+  plan-place buffer = small-place _
 
   -- ---- the answers, with number and place apart
 

@@ -5,14 +5,17 @@ use mathlib.Core.Bool.{true, false}
 use mathlib.Core.List.{List, [], _∷_, _++_}
 use Prim.Native.Nat.{ℕ, zero, suc, _+_, _*_, _≤_, _<_}
 use native.Mathlib.Omega.{arith}
-use lib.ListN.{length, take, drop, replicate, length-replicate, getD-replicate}
-use lib.Seq.{take-at}
+use lib.ListN.{length, take, drop, replicate, length-replicate, getD-replicate, length-append, length-drop}
+use lib.Seq.{take-at, length-take-le}
 use Rattle.whole.specs.Tests.{or-neither}
 use Rattle.whole.specs.Lists.{tabulate, length-tabulate, all, getD-all}
-use Rattle.refusal.specs.First.{firstOf, doneOr}
+use Rattle.refusal.specs.declared.Params.{Params}
+use Rattle.refusal.specs.declared.Refusal.{Refusal}
+use Rattle.refusal.specs.First.{firstOf, doneOr, doneOr-done}
 use Rattle.scheme.specs.Arithmetic.{fits}
 use Rattle.scheme.specs.Passed.{lengths-same, below-fits}
 use Rattle.circuit.specs.declared.Gate.{Gate}
+use Rattle.circuit.specs.Records.{length-boundsOf}
 use Rattle.circuit.specs.Core.{gate, records, uneven, planCoreRows, planCoreAnswer, planCoreBounds}
 use Rattle.gatfile.specs.File.{fileParams, fileInputs, fileGateCount, fileGate, fileGates, fileInputBounds, fileBounds, fileGateRows, filePlace}
 use Rattle.gatfile.specs.Order.{HeadRight, gateAnswer}
@@ -84,3 +87,36 @@ module _ (file : List ℕ) where
     pub settled-bounds : planCoreBounds (fileParams file) (fileInputs file) (fileKinds file) (fileLefts file) (fileRights file) Bs ≡ doneOr (firstOf (fileGateRows file)) (fileBounds file) Bs
     unfolding planCoreBounds fileBounds
     settled-bounds = rw (number, records-file, front)
+
+-- the same of what is lent to planning: the fields that were read, the lists that were filled, and a table `found` whose first entries were filled with E
+module _ (file : List ℕ) (r : HeadRight file) (found : List ℕ) {p : Params} {inputs : ℕ} {ks ls rs Es : List ℕ} (a : p ≡ fileParams file) (b : inputs ≡ fileInputs file)
+    (k : ks ≡ fileKinds file) (l : ls ≡ fileLefts file) (m : rs ≡ fileRights file)
+    (e : Es ≡ replicate (length (take inputs found)) (p .e)) (room : length found ≡ fileInputs file + fileGateCount file) where
+  filled : Es ≡ fileInputBounds file
+  unfolding fileInputBounds
+  filled = e ∙ ap₂ replicate (length-take-le inputs found (omega arith) ∙ b) (ap (λ (p : Params). p .e) a)
+
+  front : take (fileInputs file) (Es ++ drop inputs found) ≡ fileInputBounds file
+  front = rw filled (take-at (fileInputBounds file) (drop inputs found) (fileInputs file) (length-inputs file))
+
+  long : length (Es ++ drop inputs found) ≡ fileInputs file + fileGateCount file
+  long = length-append Es (drop inputs found) ∙ omega (arith, ap length filled, length-inputs file, length-drop inputs found)
+
+  pub lent-answer : planCoreAnswer p inputs ks ls rs (Es ++ drop inputs found) ≡ gateAnswer file
+  lent-answer = simp (a, b, k, l, m) (simp b at (settled-answer file r (Es ++ drop inputs found) front long))
+
+  pub lent-bounds : planCoreBounds p inputs ks ls rs (Es ++ drop inputs found) ≡ settledBounds file found
+  unfolding settledBounds
+  lent-bounds = simp (a, b, k, l, m) (simp b at (settled-bounds file r (Es ++ drop inputs found) front long) ∙ rw filled)
+
+-- ---- where 9 and 10 let the file pass, the table holds the bounds of all wires
+
+module _ (file : List ℕ) where
+  pub settled-all : (found : List ℕ) {a : Refusal} {out : List ℕ} → a ≡ gateAnswer file → a .number ≡ 0 → out ≡ settledBounds file found → out ≡ fileBounds file
+  unfolding gateAnswer settledBounds
+  settled-all found e z w = w ∙ doneOr-done _ _ (sym (ap (λ (a : Refusal). a .number) e) ∙ z)
+
+  pub length-bounds : length (fileBounds file) ≡ fileInputs file + fileGateCount file
+  unfolding fileBounds fileGates
+  length-bounds =
+      length-boundsOf (fileParams file) (fileGates file) (fileInputBounds file) ∙ ap₂ _+_ (length-inputs file) (length-tabulate (fileGateCount file) (fileGate file))

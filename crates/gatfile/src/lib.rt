@@ -1,3 +1,5 @@
-// The circuit file: what stands in it, its check, and planning on its bytes.
+// The circuit file: its check, planning on its bytes, and the printed text.
 mod field;
 mod head;
+pub mod plan;
+mod settle;

@@ -1,0 +1,21 @@
+-- `plan::check` is the check's number and place as one number.
+use mathlib.Core.Path.{_≡_, sym, _∙_}
+use Rattle.gatfile.specs.File.{checkAnswer}
+use Rattle.gatfile.specs.Order.{checkRefusal, check-place}
+use borrow.Author.Needs.{needs}
+use Rattle.gatfile.proofs.plan.check.Statement.{statement}
+use Rattle.gatfile.proofs.plan.check.Tie as tie
+
+checked-requires : tie.Need-checked-requires
+checked-requires c κs = search needs
+
+answer-requires : tie.Need-answer-requires
+unfolding checkRefusal
+answer-requires c κs = rw (c .checked .ensures) (check-place _)
+
+returns : tie.Need-returns
+unfolding checkAnswer checkRefusal
+returns c = c .answer .ensures ∙ rw (c .before .checked .ensures)
+
+pub check-spec : {M : Type 1} → statement M
+check-spec = tie.close (tie.spec checked-requires answer-requires returns)

@@ -1,0 +1,111 @@
+-- `settle::read_gates` lists the gates. The invariant is `Listed`, whose laws are in `Listing`.
+use Prim.Native.Nat.{_-_, _<_, _+_, _≤_}
+use native.Mathlib.Omega.{arith}
+use lib.ListN.{length}
+use Rattle.whole.specs.Lists.{fill-end}
+use Rattle.gatfile.specs.File.{fileGateCount}
+use Rattle.gatfile.proofs.Listing.{Listed, listed-start, listed-step}
+use Rattle.gatfile.proofs.settle.read_gates.Statement.{statement}
+use Rattle.gatfile.proofs.settle.read_gates.Tie as tie
+
+abbrev Inv-loop : tie.InvT-loop
+Inv-loop file kinds₀ lefts₀ rights₀ at₀ g₀ kinds lefts rights at g = Listed file kinds₀ lefts₀ rights₀ kinds lefts rights at g
+
+abbrev μ-loop : tie.MeasureT-loop
+μ-loop file kinds₀ lefts₀ rights₀ at₀ g₀ kinds lefts rights at g = length kinds₀ - g
+
+loop-holds : tie.Need-loop-holds Inv-loop μ-loop
+loop-holds c =
+    let p = c .before .before .before .before .pre in
+    listed-start _ (p .1) (p .2) (p .3)
+
+one-requires : tie.Need-one-requires Inv-loop μ-loop
+one-requires c κs = omega arith
+
+mul-kinds : tie.Need-mul-kinds Inv-loop μ-loop
+mul-kinds c = omega arith
+
+slice-write-kinds : tie.Need-slice-write-kinds Inv-loop μ-loop
+slice-write-kinds c = omega arith
+
+add-two : tie.Need-add-two Inv-loop μ-loop
+add-two c = omega arith
+
+two-requires : tie.Need-two-requires Inv-loop μ-loop
+two-requires c κs = omega arith
+
+mul-lefts : tie.Need-mul-lefts Inv-loop μ-loop
+mul-lefts c = omega arith
+
+slice-write-lefts : tie.Need-slice-write-lefts Inv-loop μ-loop
+slice-write-lefts c = omega arith
+
+add-two-2 : tie.Need-add-two-2 Inv-loop μ-loop
+add-two-2 c = omega arith
+
+two-requires-2 : tie.Need-two-requires-2 Inv-loop μ-loop
+two-requires-2 c κs = omega arith
+
+mul-rights : tie.Need-mul-rights Inv-loop μ-loop
+mul-rights c = omega arith
+
+slice-write-rights : tie.Need-slice-write-rights Inv-loop μ-loop
+slice-write-rights c = omega arith
+
+add-at : tie.Need-add-at Inv-loop μ-loop
+add-at c = omega arith
+
+add-g : tie.Need-add-g Inv-loop μ-loop
+add-g c = omega arith
+
+loop-less : tie.Need-loop-less Inv-loop μ-loop
+loop-less c = omega arith
+
+loop-again : tie.Need-loop-again Inv-loop μ-loop
+loop-again c =
+    let l = c .before .before .before .before in
+    let s = l .before .before .before .before .before in
+    let more : l .loop .g < fileGateCount (s .args .file .now) = omega (arith, s .pre .1) in
+    listed-step _ (l .loop .inv) more (c .before .before .one .ensures .0) (c .before .two .ensures .0) (c .two2 .ensures .0)
+
+same-length : tie.Need-same-length Inv-loop μ-loop
+same-length c = c .before .loop .inv .kinds .kept
+
+same-length-2 : tie.Need-same-length-2 Inv-loop μ-loop
+same-length-2 c = c .before .loop .inv .lefts .kept
+
+same-length-3 : tie.Need-same-length-3 Inv-loop μ-loop
+same-length-3 c = c .before .loop .inv .rights .kept
+
+returns : tie.Need-returns Inv-loop μ-loop
+returns c =
+    let p = c .before .before .before .before .before .before .pre in
+    let i = c .before .loop .inv in
+    (fill-end (i .kinds) (omega arith), (fill-end (i .lefts) (omega (arith, p .1, p .2)), fill-end (i .rights) (omega (arith, p .1, p .3))))
+
+pub read-gates-spec : {M : Type 1} → statement M
+read-gates-spec =
+    tie.close
+    (tie.spec
+    Inv-loop
+    μ-loop
+    loop-holds
+    one-requires
+    mul-kinds
+    slice-write-kinds
+    add-two
+    two-requires
+    mul-lefts
+    slice-write-lefts
+    add-two-2
+    two-requires-2
+    mul-rights
+    slice-write-rights
+    add-at
+    add-g
+    loop-less
+    loop-again
+    same-length
+    same-length-2
+    same-length-3
+    returns)
