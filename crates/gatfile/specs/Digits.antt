@@ -34,13 +34,19 @@ pub digits-long : (x : ℕ) → 10 ≤ x → digits x ≡ digits (x / 10) ++ ((4
 unfolding digits digitsUpTo
 digits-long x h = rw (le-ltb x 10 h) (ap (λ (ds : List ℕ). ds ++ ((48 + x % 10) ∷ [])) (enough x (suc (x / 10)) (x / 10) (omega arith) (omega arith)))
 
+pub length-short : (x : ℕ) → x < 10 → length (digits x) ≡ 1
+length-short x h = ap length (digits-short x h)
+
+pub length-long : (x : ℕ) → 10 ≤ x → length (digits x) ≡ length (digits (x / 10)) + 1
+length-long x h = ap length (digits-long x h) ∙ length-append (digits (x / 10)) ((48 + x % 10) ∷ [])
+
 -- a number below a power of ten has no more digits than the power
 pub digits-few : (k x : ℕ) → x < 10 ^ suc k → length (digits x) ≤ suc k
-digits-few zero x h = rw (digits-short x (omega (arith, h, pow-suc 10 0))) (omega arith)
+digits-few zero x h = omega (arith, length-short x (omega (arith, h, pow-suc 10 0)))
 digits-few (suc k) x h = by-length (ltb x 10) refl (digits-few k (x / 10))
   where
     by-length : (t : Bool) → ltb x 10 ≡ t → (x / 10 < 10 ^ suc k → length (digits (x / 10)) ≤ suc k) → length (digits x) ≤ suc (suc k)
-    by-length true e fewer = rw (digits-short x (ltb-true x 10 e)) (omega arith)
+    by-length true e fewer = omega (arith, length-short x (ltb-true x 10 e))
     by-length false e fewer =
         let below : x / 10 < 10 ^ suc k = omega (arith, h, pow-suc 10 (suc k)) in
-        rw (digits-long x (ltb-false x 10 e)) (omega (arith, fewer below, length-append (digits (x / 10)) ((48 + x % 10) ∷ [])))
+        omega (arith, fewer below, length-long x (ltb-false x 10 e))

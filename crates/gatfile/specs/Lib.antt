@@ -5,5 +5,6 @@ pub mod Settled
 pub mod Text
 pub mod Writing
 pub mod Digits
+pub mod Lines
 pub mod Wording
 pub mod Example

@@ -11,11 +11,11 @@ use borrow.Author.Tests.{ltb-true, ltb-false, leb-true, not-false, not-true, eqb
 use Rattle.whole.specs.Tests.{and-left, and-right, or-left, or-right}
 use Rattle.whole.specs.Lists.{all, length-tabulate}
 use Rattle.refusal.specs.declared.Refusal.{Refusal}
-use Rattle.refusal.specs.First.{Row, row, firstOf, firstTrue, Clear, first-front, first-rest, first-row, first-within}
+use Rattle.refusal.specs.First.{Row, row, firstOf, firstTrue, Clear, first-front, first-rest, first-below, first-within}
 use Rattle.refusal.specs.Parameters.{refused, within, InRange}
 use Rattle.scheme.specs.Calls.{badParams, differs}
 use Rattle.scheme.specs.Passed.{params-in-range, length-is, lengths-same, differs-is}
-use Rattle.circuit.specs.Circuits.{badCounts, wrongGates, overGates, placeOf}
+use Rattle.circuit.specs.Circuits.{badCounts, wrongGates, overGates, gateRows, placeOf}
 use Rattle.circuit.specs.Answers.{inputs-within, gates-within}
 use Rattle.circuit.specs.Records.{length-wrongGates, length-overGates}
 use Rattle.gatfile.specs.File.{fileParams, fileInputs, fileGateCount, fileGate, fileGates, fileInputBounds, headRows, fileGateRows, checkNumber, planNumber, filePlace}
@@ -135,6 +135,11 @@ module _ (file : List ℕ) where
   unfolding checkNumber
   check-place = small-place (fileGateRows file)
 
+  -- and no number is above 12
+  pub check-small : checkNumber file < 13
+  unfolding checkNumber headRows fileGateRows gateRows all
+  check-small = first-below 13 (headRows file ++ fileGateRows file) (omega arith) refl
+
   pub plan-place : (buffer : List ℕ) → filePlace file (planNumber file buffer) < 65536
   unfolding planNumber
   plan-place buffer = small-place _
@@ -153,6 +158,16 @@ module _ (file : List ℕ) where
 
   unfoldable pub planRefusal : List ℕ → Refusal
   planRefusal buffer = answerOf (planNumber file buffer)
+
+  -- the check gives 0 only where the head does
+  pub check-passes : {a : Refusal} → a ≡ checkRefusal → a .number ≡ 0 → firstOf (headRows file) ≡ 0
+  unfolding checkRefusal checkNumber
+  check-passes e z = by-number (firstOf (headRows file)) refl
+    where
+      by-number : (k : ℕ) → firstOf (headRows file) ≡ k → k ≡ 0
+      by-number zero f = refl
+      by-number (suc k) f =
+          sym f ∙ sym (first-front (headRows file) (fileGateRows file) (λ y. omega (arith, f, y))) ∙ sym (ap (λ (a : Refusal). a .number) e) ∙ z
 
   -- the head refuses
   module _ {n : ℕ} (e : n ≡ firstOf (headRows file)) (h : n ≢ 0) where

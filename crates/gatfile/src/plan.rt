@@ -4,16 +4,15 @@ ghost use mathlib.Core.List.{flatMap};
 ghost use Prim.Native.Nat.{_+_, _*_, _≤_, _<_};
 ghost use lib.ListN.{length};
 ghost use Rattle.gatfile.specs.File.{fourBytes, checkAnswer, planFileAnswer, planFileBuffer};
-ghost use Rattle.gatfile.specs.Order.{checkRefusal, planRefusal};
+ghost use Rattle.gatfile.specs.Order.{planRefusal};
 ghost use Rattle.gatfile.specs.Writing.{Written};
 use crate::head::gate_count;
 use crate::head::head_number;
 use crate::head::inputs;
+use crate::settle::WIRES;
+use crate::settle::checked;
 use crate::settle::settle;
 use refusal::Refusal;
-
-// The most wires of a circuit.
-pub const WIRES: usize = 5120;
 
 // 65,536 times the number plus the place.
 fn answer(r: Refusal) -> u64
@@ -48,19 +47,6 @@ fn write_bounds(bounds: &[u32], out: &mut [u8])
     }
 }
 
-// The check, number and place apart.
-fn checked(file: &[u8]) -> Refusal
-    ensures { λ r. ⌜ r ≡ checkRefusal (now (file .entry)) ⌝ }
-{
-    let number = head_number(file);
-    if number != 0 {
-        return Refusal { number, place: 0 };
-    }
-    let wires = inputs(file) as usize + gate_count(file);
-    let mut table = [0u32; WIRES];
-    settle(file, &mut table[0..wires])
-}
-
 // Planning, number and place apart.
 fn planned(file: &[u8], bounds: &mut [u8]) -> Refusal
     ensures { λ r. ⌜ r ≡ planRefusal (now (file .entry)) (now (bounds .entry)) ⌝ }
@@ -90,7 +76,8 @@ fn planned(file: &[u8], bounds: &mut [u8]) -> Refusal
 pub fn check(file: &[u8]) -> u64
     ensures { λ r. ⌜ r ≡ checkAnswer (now (file .entry)) ⌝ }
 {
-    answer(checked(file))
+    let mut table = [0u32; WIRES];
+    answer(checked(file, &mut table))
 }
 
 // Planning on a circuit file: every wire's bound, four big-endian bytes each, and the same answer. 3 for the buffer's length comes after the

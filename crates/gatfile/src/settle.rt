@@ -1,21 +1,25 @@
 // The gates of a file whose head is right, and the bounds of its wires.
 ghost use mathlib.Core.Path.{_≡_};
 ghost use Prim.Native.Nat.{_+_, _*_, _≤_};
-ghost use lib.ListN.{length, replicate};
+ghost use lib.ListN.{length, take, replicate};
 ghost use Rattle.refusal.specs.First.{firstOf};
-ghost use Rattle.gatfile.specs.File.{fileInputs, fileGateCount, headRows};
-ghost use Rattle.gatfile.specs.Order.{gateAnswer};
+ghost use Rattle.gatfile.specs.File.{fileInputs, fileGateCount, fileBounds, headRows};
+ghost use Rattle.gatfile.specs.Order.{gateAnswer, checkRefusal};
 ghost use Rattle.gatfile.specs.Settled.{fileKinds, fileLefts, fileRights, settledBounds};
 use crate::field::one;
 use crate::field::two;
 use crate::head::HEAD;
 use crate::head::gate_count;
+use crate::head::head_number;
 use crate::head::inputs;
 use crate::head::params;
 use refusal::Refusal;
 
 // The most gates of a circuit.
 const GATES: usize = 4096;
+
+// The most wires of a circuit.
+pub const WIRES: usize = 5120;
 
 // Lists the gates of the file.
 fn read_gates(file: &[u8], kinds: &mut [u32], lefts: &mut [u32], rights: &mut [u32])
@@ -84,4 +88,18 @@ pub fn settle(file: &[u8], table: &mut [u32]) -> Refusal
         &mut rights[0..gates],
         table,
     )
+}
+
+// The check of a file, number and place apart; where the number is 0 the table begins with the bounds of all wires.
+pub fn checked(file: &[u8], table: &mut [u32]) -> Refusal
+    requires { ⌜ 5120 ≤ length (now table) ⌝ }
+    ensures { λ r. ⌜ r ≡ checkRefusal (now (file .entry)) ⌝ }
+    ensures { λ r. ⌜ (r .number ≡ 0 → take (fileInputs (now (file .entry)) + fileGateCount (now (file .entry))) (now (table .exit)) ≡ fileBounds (now (file .entry))) ⌝ }
+{
+    let number = head_number(file);
+    if number != 0 {
+        return Refusal { number, place: 0 };
+    }
+    let wires = inputs(file) as usize + gate_count(file);
+    settle(file, &mut table[0..wires])
 }

@@ -1,0 +1,83 @@
+-- `text::put_wires` writes a line for each wire. The invariant: the lines of the wires passed are written from the front (`PartsWritten`), each of at most 20 bytes.
+use mathlib.Core.Path.{_≡_, ap, _∙_}
+use Prim.Native.Nat.{_+_, _*_, _-_, _≤_, _<_}
+use native.Mathlib.Omega.{arith}
+use lib.ListN.{length}
+use Rattle.whole.specs.Lists.{length-tabulate}
+use Rattle.gatfile.specs.File.{fileInputs, fileGateCount}
+use Rattle.gatfile.specs.Order.{HeadRight, head-right}
+use Rattle.gatfile.specs.Settled.{length-bounds}
+use Rattle.gatfile.specs.Lines.{lineOf, fileWires, wire-lines, line-at}
+use Rattle.gatfile.specs.Writing.{PartsWritten, parts-start, parts-step, parts-end, written-as, written-kept}
+use Rattle.gatfile.proofs.text.put_wires.Statement.{statement}
+use Rattle.gatfile.proofs.text.put_wires.Tie as tie
+
+abbrev Inv-loop : tie.InvT-loop
+Inv-loop file bounds out₀ at₀ wire₀ out at wire = PartsWritten (lineOf file) (fileWires file) out₀ out at wire × (at ≤ 20 * wire)
+
+abbrev μ-loop : tie.MeasureT-loop
+μ-loop file bounds out₀ at₀ wire₀ out at wire = length bounds - wire
+
+loop-holds : tie.Need-loop-holds Inv-loop μ-loop
+loop-holds c = (parts-start _ _ _, omega arith)
+
+mul-put-wire : tie.Need-mul-put-wire Inv-loop μ-loop
+mul-put-wire c = omega arith
+
+shared-slice-read-put-wire : tie.Need-shared-slice-read-put-wire Inv-loop μ-loop
+shared-slice-read-put-wire c = omega arith
+
+-- there are as many bounds as wires, and so at most 5,120
+many : (s : tie.Start Inv-loop μ-loop) → (let a = s .args in length (a .bounds .now) ≡ fileInputs (a .file .now) + fileGateCount (a .file .now))
+many s = ap length (s .pre .1) ∙ length-bounds _
+
+few : (s : tie.Start Inv-loop μ-loop) → (let f = s .args .file .now in fileInputs f + fileGateCount f ≤ 5120)
+few s = let r = head-right _ (s .pre .0) in omega (arith, r .inputs-high, r .gates-high)
+
+put-wire-requires : tie.Need-put-wire-requires Inv-loop μ-loop
+put-wire-requires c κs =
+    let l = c .before .before .before in
+    let s = c .before .before .before .before .before .before .before in
+    let more = c .before .before .loop-test .taken in
+    (s .pre .0, omega (arith, many s, more), omega (arith, many s, more, few s, s .pre .2, l .loop .inv .1, written-kept (l .loop .inv .0 .so-far)))
+
+add-wire : tie.Need-add-wire Inv-loop μ-loop
+add-wire c = omega arith
+
+loop-less : tie.Need-loop-less Inv-loop μ-loop
+loop-less c = omega arith
+
+loop-again : tie.Need-loop-again Inv-loop μ-loop
+loop-again c =
+    let l = c .before .before .before .before .before .before in
+    let s = c .before .before .before .before .before .before .before .before .before .before in
+    let w = c .before .before .put-wire .ensures in
+    let here = line-at (s .args .file .now) (l .loop .wire) (s .pre .1) (c .before .before .before .before .before .loop-test .taken) in
+    (parts-step (l .loop .inv .0) 0 (here .0) (written-as (here .1) (w .0)), omega (arith, w .1, l .loop .inv .1))
+
+same-length : tie.Need-same-length Inv-loop μ-loop
+same-length c = written-kept (c .before .loop .inv .0 .so-far)
+
+returns : tie.Need-returns Inv-loop μ-loop
+returns c =
+    let s = c .before .before .before .before .before in
+    let i = c .before .loop .inv in (
+      written-as (wire-lines _) (parts-end (i .0) (omega (arith, c .loop-test .left, many s, length-tabulate (fileInputs (s .args .file .now) + fileGateCount (s .args .file .now)) (λ wire. wire)))),
+      omega (arith, i .1, i .0 .within, few s, length-tabulate (fileInputs (s .args .file .now) + fileGateCount (s .args .file .now)) (λ wire. wire)),
+    )
+
+pub put-wires-spec : {M : Type 1} → statement M
+put-wires-spec =
+    tie.close
+    (tie.spec
+    Inv-loop
+    μ-loop
+    loop-holds
+    mul-put-wire
+    shared-slice-read-put-wire
+    put-wire-requires
+    add-wire
+    loop-less
+    loop-again
+    same-length
+    returns)

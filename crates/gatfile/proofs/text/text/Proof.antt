@@ -1,0 +1,54 @@
+-- `text::text` copies the text to the lent buffer where it has room for it.
+use mathlib.Core.Path.{_≡_, sym, ap, _∙_}
+use native.Mathlib.Omega.{arith}
+use native.Mathlib.Nat.{sub-zero}
+use Rattle.gatfile.specs.Lines.{text-short, text-fits}
+use Rattle.gatfile.specs.Writing.{written-as, written-front}
+use borrow.Author.Needs.{needs}
+use Rattle.gatfile.proofs.text.text.Statement.{statement}
+use Rattle.gatfile.proofs.text.text.Tie as tie
+
+slice-aggregate-put-text : tie.Need-slice-aggregate-put-text
+slice-aggregate-put-text c = search needs
+
+slice-aggregate-put-text-2 : tie.Need-slice-aggregate-put-text-2
+slice-aggregate-put-text-2 c = search needs
+
+put-text-requires : tie.Need-put-text-requires
+put-text-requires c κs = search needs
+
+returns : tie.Need-returns
+returns c = text-short _ _ (omega (arith, c .if1 .taken, c .before .before .before .put-text .ensures .stop))
+
+sub-put : tie.Need-sub-put
+sub-put c = search needs
+
+part-put-start : tie.Need-part-put-start
+part-put-start c = search needs
+
+part-put-end : tie.Need-part-put-end
+part-put-end c = search needs
+
+put-requires : tie.Need-put-requires
+put-requires c κs = search needs
+
+same-length : tie.Need-same-length
+same-length c = search needs
+
+returns-2 : tie.Need-returns-2
+returns-2 c = text-fits _ _ (written-as (rw sub-zero (written-front (c .before .before .before .before .before .before .before .before .before .put-text .ensures))) (c .before .before .put .ensures))
+
+pub text-spec : {M : Type 1} → statement M
+text-spec =
+    tie.close
+    (tie.spec
+    slice-aggregate-put-text
+    slice-aggregate-put-text-2
+    put-text-requires
+    returns
+    sub-put
+    part-put-start
+    part-put-end
+    put-requires
+    same-length
+    returns-2)
