@@ -9,9 +9,9 @@ use lib.Dec.{leb, ltb, eqb}
 use lib.ListN.{length}
 use borrow.Author.Tests.{ltb-true, ltb-false, leb-true, not-false, not-true, eqb-false, ne-eqb}
 use Rattle.whole.specs.Tests.{and-left, and-right, or-left, or-right}
-use Rattle.whole.specs.Lists.{all, length-tabulate}
+use Rattle.whole.specs.Lists.{nil, cons, all, length-tabulate}
 use Rattle.refusal.specs.declared.Refusal.{Refusal}
-use Rattle.refusal.specs.First.{Row, row, firstOf, firstTrue, Clear, first-front, first-rest, first-below, first-within}
+use Rattle.refusal.specs.First.{Row, row, firstOf, firstTrue, Clear, first-front, first-rest, first-under, first-within}
 use Rattle.refusal.specs.Parameters.{refused, within, InRange}
 use Rattle.scheme.specs.Calls.{badParams, differs}
 use Rattle.scheme.specs.Passed.{params-in-range, length-is, lengths-same, differs-is}
@@ -137,8 +137,8 @@ module _ (file : List ℕ) where
 
   -- and no number is above 12
   pub check-small : checkNumber file < 13
-  unfolding checkNumber headRows fileGateRows gateRows all
-  check-small = first-below 13 (headRows file ++ fileGateRows file) (omega arith) refl
+  unfolding checkNumber headRows fileGateRows gateRows
+  check-small = first-under (omega arith) (cons (omega arith) (cons (omega arith) (cons (omega arith) (cons (omega arith) (cons (omega arith) (cons (omega arith) (cons (omega arith) nil)))))))
 
   pub plan-place : (buffer : List ℕ) → filePlace file (planNumber file buffer) < 65536
   unfolding planNumber
