@@ -7,4 +7,6 @@ pub mod Writing
 pub mod Digits
 pub mod Lines
 pub mod Wording
+pub mod Unique
+pub mod Long
 pub mod Example

@@ -102,12 +102,16 @@ module _ (file : List ℕ) (r : HeadRight file) (found : List ℕ) {p : Params} 
   long : length (Es ++ drop inputs found) ≡ fileInputs file + fileGateCount file
   long = length-append Es (drop inputs found) ∙ omega (arith, ap length filled, length-inputs file, length-drop inputs found)
 
-  pub lent-answer : planCoreAnswer p inputs ks ls rs (Es ++ drop inputs found) ≡ gateAnswer file
+  lent-answer : planCoreAnswer p inputs ks ls rs (Es ++ drop inputs found) ≡ gateAnswer file
   lent-answer = simp (a, b, k, l, m) (simp b at (settled-answer file r (Es ++ drop inputs found) front long))
 
-  pub lent-bounds : planCoreBounds p inputs ks ls rs (Es ++ drop inputs found) ≡ settledBounds file found
+  lent-bounds : planCoreBounds p inputs ks ls rs (Es ++ drop inputs found) ≡ settledBounds file found
   unfolding settledBounds
   lent-bounds = simp (a, b, k, l, m) (simp b at (settled-bounds file r (Es ++ drop inputs found) front long) ∙ rw filled)
+
+  pub lent-planned : {a : Refusal} {out : List ℕ} → (a ≡ planCoreAnswer p inputs ks ls rs (Es ++ drop inputs found)) × (out ≡ planCoreBounds p inputs ks ls rs (Es ++ drop inputs found))
+      → (a ≡ gateAnswer file) × (out ≡ settledBounds file found)
+  lent-planned w = (w .0 ∙ lent-answer, w .1 ∙ lent-bounds)
 
 -- ---- where 9 and 10 let the file pass, the table holds the bounds of all wires
 

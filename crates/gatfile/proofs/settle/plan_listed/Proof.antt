@@ -1,10 +1,8 @@
 -- `settle::plan_listed` plans the file's circuit: what it lends to `plan` are the file's gates as three lists and its inputs at bound E, for which planning
--- answers and leaves what 9, 10 and the bounds of the file are (`lent-answer`, `lent-bounds`).
+-- answers and leaves what 9, 10 and the bounds of the file are (`lent-planned`).
 use native.Mathlib.Nat.{sub-zero}
-use mathlib.Core.Path.{sym, _∙_}
-use native.Mathlib.Omega.{arith}
 use Rattle.gatfile.specs.Order.{HeadRight, head-right}
-use Rattle.gatfile.specs.Settled.{lent-answer, lent-bounds}
+use Rattle.gatfile.specs.Settled.{lent-planned}
 use borrow.Author.Needs.{needs}
 use Rattle.gatfile.proofs.settle.plan_listed.Statement.{statement}
 use Rattle.gatfile.proofs.settle.plan_listed.Tie as tie
@@ -56,13 +54,9 @@ returns c =
     let i = f .before .before in
     let g = i .before .before .before .before .before .before .before .before in
     let s = g .before .before .before .before .before .before .before .before .before in
-    let r = head-right _ (s .pre .0) in
-    let e = simp sub-zero at (f .fill .ensures) in (
-      c .before .before .plan .ensures .0
-          ∙ simp sub-zero (lent-answer _ r (s .args .table .now) (i .before .params .ensures) (i .inputs .ensures .0) (g .read-gates .ensures .0) (g .read-gates .ensures .1 .0) (g .read-gates .ensures .1 .1) e (s .pre .4)),
-      c .before .before .plan .ensures .1
-          ∙ simp sub-zero (lent-bounds _ r (s .args .table .now) (i .before .params .ensures) (i .inputs .ensures .0) (g .read-gates .ensures .0) (g .read-gates .ensures .1 .0) (g .read-gates .ensures .1 .1) e (s .pre .4)),
-    )
+    let lists = g .read-gates .ensures in
+    lent-planned _ (head-right _ (s .pre .0)) (s .args .table .now) (i .before .params .ensures) (i .inputs .ensures .0) (lists .0) (lists .1 .0) (lists .1 .1)
+    (simp sub-zero at (f .fill .ensures)) (s .pre .4) (simp sub-zero at (c .before .before .plan .ensures))
 
 pub plan-listed-spec : {M : Type 1} → statement M
 plan-listed-spec =
