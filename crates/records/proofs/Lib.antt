@@ -1,3 +1,5 @@
+pub mod Calling
 pub mod Facts
+pub mod Gates
 pub mod Listing
 pub mod Rows

@@ -1,5 +1,5 @@
 -- The invariant of `list` and its laws: the fields of the first i gates are listed, the rest of each list is as found.
-use mathlib.Core.Path.{_≡_, refl, sym, ap, _∙_}
+use mathlib.Core.Path.{_≡_, sym, ap, _∙_}
 use mathlib.Core.List.{List, _++_}
 use Prim.Native.Nat.{ℕ, _+_, _-_, _≤_, _<_}
 use native.Mathlib.Nat.{sub-zero}
@@ -72,18 +72,38 @@ module _ (first : List Gate) (kinds₀ lefts₀ rights₀ : List ℕ) where
 pub first-few : (n : ℕ) (found : List ℕ) → n ≤ 4097 → length (take (n - 0) found) ≤ 4097
 first-few n found h = simp length-take (omega arith)
 
+-- the first n entries, after `new` was put in
+abbrev front : ℕ → List ℕ → List ℕ → List ℕ
+front n new rest = take (n - 0) (new ++ rest)
+
 -- the fields of m gates, put into the first n entries of what was found, to be lent again
 pub record Lent (fields : List Gate → List ℕ) (first : List Gate) (n m : ℕ) (new : List ℕ) : Type 0 where
   pub holds : (rest : List ℕ) → n ≤ length (new ++ rest)
-  pub again : (rest : List ℕ) → take (n - 0) (new ++ rest) ≡ fields (take m first)
+  pub again : (rest : List ℕ) → front n new rest ≡ fields (take m first)
 
-pub lent : {fields : List Gate → List ℕ} {first : List Gate} {n m : ℕ} (found new : List ℕ) → ((gates : List Gate) → length (fields gates) ≡ length gates)
+lent : {fields : List Gate → List ℕ} {first : List Gate} {n m : ℕ} (found new : List ℕ) → ((gates : List Gate) → length (fields gates) ≡ length gates)
     → n ≡ m → m ≤ length first → m ≤ length found → new ≡ fields (take (length (take (n - 0) found)) first) → Lent fields first n m new
 lent {fields} {first} {n} {m} found new keeps e h k f =
     let room : length (take (n - 0) found) ≡ m = rw sub-zero (length-take-le n found (omega arith) ∙ e) in
     let g : new ≡ fields (take m first) = rw room at f in
     let l : length new ≡ n = ap length g ∙ keeps (take m first) ∙ length-take-le m first h ∙ sym e in
     record { holds = λ rest. put-holds n new rest l; again = λ rest. put-first n new rest l ∙ g }
+
+pub record Lents (first : List Gate) (n m : ℕ) (kinds lefts rights : List ℕ) : Type 0 where
+  pub kinds-lent : Lent kindsOf first n m kinds
+  pub lefts-lent : Lent leftsOf first n m lefts
+  pub rights-lent : Lent rightsOf first n m rights
+
+-- as `list` leaves them
+pub lents : {first : List Gate} {n m : ℕ} {kinds lefts rights : List ℕ} (found : List ℕ) → n ≡ m → m ≤ length first → m ≤ length found
+    → (kinds ≡ kindsOf (take (length (take (n - 0) found)) first)) × ((lefts ≡ leftsOf (take (length (take (n - 0) found)) first)) × (rights ≡ rightsOf (take (length (take (n - 0) found)) first)))
+    → Lents first n m kinds lefts rights
+lents {kinds = kinds} {lefts = lefts} {rights = rights} found e h k f =
+    record {
+      kinds-lent = lent found kinds length-kinds e h k (f .0);
+      lefts-lent = lent found lefts length-lefts e h k (f .1 .0);
+      rights-lent = lent found rights length-rights e h k (f .1 .1);
+    }
 
 -- ---- the core, of the fields of gates
 
@@ -103,25 +123,45 @@ module _ (p : Params) (inputs : ℕ) (gates : List Gate) where
   rights-long : length rs ≡ length ks
   rights-long = length-rights gates ∙ sym (length-kinds gates)
 
-  pub plan-answer-fields : (Bs : List ℕ) → planCoreAnswer p inputs ks ls rs Bs ≡ planAnswer p inputs gates Bs
-  plan-answer-fields Bs = plan-answer-agrees p inputs ks ls rs lefts-long rights-long Bs ∙ ap (λ (gs : List Gate). planAnswer p inputs gs Bs) (records-fields gates)
+  plan-answer-fields : (Bs : List ℕ) → planCoreAnswer p inputs ks ls rs Bs ≡ planAnswer p inputs gates Bs
+  plan-answer-fields Bs = plan-answer-agrees p inputs ks ls rs lefts-long rights-long Bs ∙ rw records-fields
 
-  pub plan-bounds-fields : (Bs : List ℕ) → planCoreBounds p inputs ks ls rs Bs ≡ planBounds p inputs gates Bs
-  plan-bounds-fields Bs = plan-bounds-agrees p inputs ks ls rs lefts-long rights-long Bs ∙ ap (λ (gs : List Gate). planBounds p inputs gs Bs) (records-fields gates)
+  plan-bounds-fields : (Bs : List ℕ) → planCoreBounds p inputs ks ls rs Bs ≡ planBounds p inputs gates Bs
+  plan-bounds-fields Bs = plan-bounds-agrees p inputs ks ls rs lefts-long rights-long Bs ∙ rw records-fields
 
-  pub evaluate-answer-fields : (wires : List ℤ) (Bs : List ℕ) (W : List ℤ) (scratch : ℕ) → evaluateCoreAnswer p inputs ks ls rs wires Bs W scratch ≡ evaluateAnswer p inputs gates wires Bs W scratch
-  evaluate-answer-fields wires Bs W scratch =
-      evaluate-answer-agrees p inputs ks ls rs lefts-long rights-long wires Bs W scratch ∙ ap (λ (gs : List Gate). evaluateAnswer p inputs gs wires Bs W scratch) (records-fields gates)
+  evaluate-answer-fields : (wires : List ℤ) (Bs : List ℕ) (W : List ℤ) (scratch : ℕ)
+      → evaluateCoreAnswer p inputs ks ls rs wires Bs W scratch ≡ evaluateAnswer p inputs gates wires Bs W scratch
+  evaluate-answer-fields wires Bs W scratch = evaluate-answer-agrees p inputs ks ls rs lefts-long rights-long wires Bs W scratch ∙ rw records-fields
 
   module _ (wires : List ℤ) (Bs : List ℕ) (W scratch : List ℤ) where
-    pub evaluate-wires-fields : evaluateCoreWires p inputs ks ls rs wires Bs W scratch ≡ evaluateWires p inputs gates wires Bs W scratch
-    evaluate-wires-fields =
-        evaluate-wires-agrees p inputs ks ls rs lefts-long rights-long wires Bs W scratch ∙ ap (λ (gs : List Gate). evaluateWires p inputs gs wires Bs W scratch) (records-fields gates)
+    evaluate-wires-fields : evaluateCoreWires p inputs ks ls rs wires Bs W scratch ≡ evaluateWires p inputs gates wires Bs W scratch
+    evaluate-wires-fields = evaluate-wires-agrees p inputs ks ls rs lefts-long rights-long wires Bs W scratch ∙ rw records-fields
 
-    pub evaluate-bounds-fields : evaluateCoreBounds p inputs ks ls rs wires Bs W scratch ≡ evaluateBounds p inputs gates wires Bs W scratch
-    evaluate-bounds-fields =
-        evaluate-bounds-agrees p inputs ks ls rs lefts-long rights-long wires Bs W scratch ∙ ap (λ (gs : List Gate). evaluateBounds p inputs gs wires Bs W scratch) (records-fields gates)
+    evaluate-bounds-fields : evaluateCoreBounds p inputs ks ls rs wires Bs W scratch ≡ evaluateBounds p inputs gates wires Bs W scratch
+    evaluate-bounds-fields = evaluate-bounds-agrees p inputs ks ls rs lefts-long rights-long wires Bs W scratch ∙ rw records-fields
 
-    pub evaluate-scratch-fields : evaluateCoreScratch p inputs ks ls rs wires Bs W scratch ≡ evaluateScratch p inputs gates wires Bs W scratch
-    evaluate-scratch-fields =
-        evaluate-scratch-agrees p inputs ks ls rs lefts-long rights-long wires Bs W scratch ∙ ap (λ (gs : List Gate). evaluateScratch p inputs gs wires Bs W scratch) (records-fields gates)
+    evaluate-scratch-fields : evaluateCoreScratch p inputs ks ls rs wires Bs W scratch ≡ evaluateScratch p inputs gates wires Bs W scratch
+    evaluate-scratch-fields = evaluate-scratch-agrees p inputs ks ls rs lefts-long rights-long wires Bs W scratch ∙ rw records-fields
+
+-- ---- the core, of the lists that were put in and are lent again
+
+module _ (p : Params) (inputs : ℕ) {first : List Gate} {n m : ℕ} {kinds lefts rights : List ℕ} (f : Lents first n m kinds lefts rights) (k l r : List ℕ) where
+  pub plan-answer-lent : (Bs : List ℕ) → planCoreAnswer p inputs (front n kinds k) (front n lefts l) (front n rights r) Bs ≡ planAnswer p inputs (take m first) Bs
+  plan-answer-lent Bs = rw (f .kinds-lent .again, f .lefts-lent .again, f .rights-lent .again) (plan-answer-fields p inputs (take m first) Bs)
+
+  pub plan-bounds-lent : (Bs : List ℕ) → planCoreBounds p inputs (front n kinds k) (front n lefts l) (front n rights r) Bs ≡ planBounds p inputs (take m first) Bs
+  plan-bounds-lent Bs = rw (f .kinds-lent .again, f .lefts-lent .again, f .rights-lent .again) (plan-bounds-fields p inputs (take m first) Bs)
+
+  pub evaluate-answer-lent : (wires : List ℤ) (Bs : List ℕ) (W : List ℤ) (scratch : ℕ)
+      → evaluateCoreAnswer p inputs (front n kinds k) (front n lefts l) (front n rights r) wires Bs W scratch ≡ evaluateAnswer p inputs (take m first) wires Bs W scratch
+  evaluate-answer-lent wires Bs W scratch = rw (f .kinds-lent .again, f .lefts-lent .again, f .rights-lent .again) (evaluate-answer-fields p inputs (take m first) wires Bs W scratch)
+
+  module _ (wires : List ℤ) (Bs : List ℕ) (W scratch : List ℤ) where
+    pub evaluate-wires-lent : evaluateCoreWires p inputs (front n kinds k) (front n lefts l) (front n rights r) wires Bs W scratch ≡ evaluateWires p inputs (take m first) wires Bs W scratch
+    evaluate-wires-lent = rw (f .kinds-lent .again, f .lefts-lent .again, f .rights-lent .again) (evaluate-wires-fields p inputs (take m first) wires Bs W scratch)
+
+    pub evaluate-bounds-lent : evaluateCoreBounds p inputs (front n kinds k) (front n lefts l) (front n rights r) wires Bs W scratch ≡ evaluateBounds p inputs (take m first) wires Bs W scratch
+    evaluate-bounds-lent = rw (f .kinds-lent .again, f .lefts-lent .again, f .rights-lent .again) (evaluate-bounds-fields p inputs (take m first) wires Bs W scratch)
+
+    pub evaluate-scratch-lent : evaluateCoreScratch p inputs (front n kinds k) (front n lefts l) (front n rights r) wires Bs W scratch ≡ evaluateScratch p inputs (take m first) wires Bs W scratch
+    evaluate-scratch-lent = rw (f .kinds-lent .again, f .lefts-lent .again, f .rights-lent .again) (evaluate-scratch-fields p inputs (take m first) wires Bs W scratch)

@@ -1,6 +1,6 @@
 -- A run of gate records as the numeric core takes it: the gates that are listed, and their kinds, lefts and rights. A run of more gates than a
 -- circuit may have is listed one gate beyond that, so that it is still seen to be too long.
-use mathlib.Core.Path.{_≡_, refl, sym, ap, ap₂, _∙_}
+use mathlib.Core.Path.{_≡_, refl, sym, ap, _∙_}
 use mathlib.Core.Bool.{Bool, true, false, cond}
 use mathlib.Core.List.{List, [], _∷_, _++_, map}
 use Prim.Native.Nat.{ℕ, suc, _≤_, _<_}

@@ -1,10 +1,10 @@
 -- `evaluate::evaluate_first` evaluates the gates that are listed: the core is lent their fields, each list the first part of an array.
-use mathlib.Core.Path.{_≡_, refl, _∙_}
+use mathlib.Core.Path.{refl, _∙_}
 use Prim.Native.Nat.{ℕ, _≤_}
 use native.Mathlib.Omega.{arith}
-use lib.ListN.{length, take}
-use Rattle.records.specs.First.{listedCount, kindsOf, leftsOf, rightsOf, count-most, length-kinds, length-lefts, length-rights}
-use Rattle.records.proofs.Listing.{Lent, lent, first-few, evaluate-answer-fields, evaluate-wires-fields, evaluate-bounds-fields, evaluate-scratch-fields}
+use lib.ListN.{length}
+use Rattle.records.specs.First.{listedCount, count-most}
+use Rattle.records.proofs.Listing.{Lents, lents, first-few, evaluate-answer-lent, evaluate-wires-lent, evaluate-bounds-lent, evaluate-scratch-lent}
 use borrow.Author.Needs.{needs}
 use Rattle.records.proofs.evaluate.evaluate_first.Statement.{statement}
 use Rattle.records.proofs.evaluate.evaluate_first.Tie as tie
@@ -53,14 +53,15 @@ start c = c .before .before .before .before .before .before
 abbrev count : tie.After-list → ℕ
 count c = c .before .before .before .before .listed-count .result
 
-kinds-lent : (c : tie.After-list) → Lent kindsOf (start c .args .first) (count c) (listedCount (start c .args .gates)) (c .list .last .1 .0)
-kinds-lent c = lent _ _ length-kinds (c .before .before .before .before .listed-count .ensures) (omega (arith, count-most (start c .args .gates))) (count-most _) (c .list .ensures .0)
-
-lefts-lent : (c : tie.After-list) → Lent leftsOf (start c .args .first) (count c) (listedCount (start c .args .gates)) (c .list .last .1 .1 .0)
-lefts-lent c = lent _ _ length-lefts (c .before .before .before .before .listed-count .ensures) (omega (arith, count-most (start c .args .gates))) (count-most _) (c .list .ensures .1 .0)
-
-rights-lent : (c : tie.After-list) → Lent rightsOf (start c .args .first) (count c) (listedCount (start c .args .gates)) (c .list .last .1 .1 .1 .0)
-rights-lent c = lent _ _ length-rights (c .before .before .before .before .listed-count .ensures) (omega (arith, count-most (start c .args .gates))) (count-most _) (c .list .ensures .1 .1)
+lent : (c : tie.After-list)
+    → Lents (start c .args .first) (count c) (listedCount (start c .args .gates)) (c .list .last .1 .0) (c .list .last .1 .1 .0) (c .list .last .1 .1 .1 .0)
+lent c =
+    lents
+    _
+    (c .before .before .before .before .listed-count .ensures)
+    (omega (arith, count-most (start c .args .gates)))
+    (count-most (start c .args .gates))
+    (c .list .ensures)
 
 sub-evaluate : tie.Need-sub-evaluate
 sub-evaluate c = search needs
@@ -69,7 +70,7 @@ part-evaluate-start : tie.Need-part-evaluate-start
 part-evaluate-start c = search needs
 
 part-evaluate-end : tie.Need-part-evaluate-end
-part-evaluate-end c = let l = c .before .before .before .before in kinds-lent l .holds _
+part-evaluate-end c = let l = c .before .before .before .before in lent l .kinds-lent .holds _
 
 sub-evaluate-2 : tie.Need-sub-evaluate-2
 sub-evaluate-2 c = search needs
@@ -78,7 +79,7 @@ part-evaluate-start-2 : tie.Need-part-evaluate-start-2
 part-evaluate-start-2 c = search needs
 
 part-evaluate-end-2 : tie.Need-part-evaluate-end-2
-part-evaluate-end-2 c = let l = c .before .before .before .before .before .before in lefts-lent l .holds _
+part-evaluate-end-2 c = let l = c .before .before .before .before .before .before in lent l .lefts-lent .holds _
 
 sub-evaluate-3 : tie.Need-sub-evaluate-3
 sub-evaluate-3 c = search needs
@@ -87,7 +88,7 @@ part-evaluate-start-3 : tie.Need-part-evaluate-start-3
 part-evaluate-start-3 c = search needs
 
 part-evaluate-end-3 : tie.Need-part-evaluate-end-3
-part-evaluate-end-3 c = let l = c .before .before .before .before .before .before .before .before in rights-lent l .holds _
+part-evaluate-end-3 c = let l = c .before .before .before .before .before .before .before .before in lent l .rights-lent .holds _
 
 evaluate-requires : tie.Need-evaluate-requires
 evaluate-requires c κs = search needs
@@ -105,18 +106,13 @@ returns : tie.Need-returns
 returns c =
     let l = c .before .before .before .before .before .before .before .before .before .before .before .before .before .before .before .before .before in
     let a = start l .args in
-    let gates = take (listedCount (a .gates)) (a .first) in
     let e = c .before .before .before .before .evaluate .ensures in (
-      rw (kinds-lent l .again, lefts-lent l .again, rights-lent l .again) at (e .0)
-          ∙ evaluate-answer-fields (a .p) (a .inputs) gates (a .wires .now) (a .bounds .now) (a .key .now) (length (a .scratch .now)),
+      e .0 ∙ evaluate-answer-lent (a .p) (a .inputs) (lent l) _ _ _ (a .wires .now) (a .bounds .now) (a .key .now) (length (a .scratch .now)),
       (
-        rw (kinds-lent l .again, lefts-lent l .again, rights-lent l .again) at (e .1 .0)
-            ∙ evaluate-wires-fields (a .p) (a .inputs) gates (a .wires .now) (a .bounds .now) (a .key .now) (a .scratch .now),
+        e .1 .0 ∙ evaluate-wires-lent (a .p) (a .inputs) (lent l) _ _ _ (a .wires .now) (a .bounds .now) (a .key .now) (a .scratch .now),
         (
-          rw (kinds-lent l .again, lefts-lent l .again, rights-lent l .again) at (e .1 .1 .0)
-              ∙ evaluate-bounds-fields (a .p) (a .inputs) gates (a .wires .now) (a .bounds .now) (a .key .now) (a .scratch .now),
-          rw (kinds-lent l .again, lefts-lent l .again, rights-lent l .again) at (e .1 .1 .1)
-              ∙ evaluate-scratch-fields (a .p) (a .inputs) gates (a .wires .now) (a .bounds .now) (a .key .now) (a .scratch .now),
+          e .1 .1 .0 ∙ evaluate-bounds-lent (a .p) (a .inputs) (lent l) _ _ _ (a .wires .now) (a .bounds .now) (a .key .now) (a .scratch .now),
+          e .1 .1 .1 ∙ evaluate-scratch-lent (a .p) (a .inputs) (lent l) _ _ _ (a .wires .now) (a .bounds .now) (a .key .now) (a .scratch .now),
         ),
       ),
     )

@@ -1,5 +1,4 @@
 -- `first::listed_count` counts the gates that are listed.
-use mathlib.Core.Path.{refl}
 use Rattle.records.specs.First.{count-few, count-many}
 use Rattle.records.proofs.first.listed_count.Statement.{statement}
 use Rattle.records.proofs.first.listed_count.Tie as tie

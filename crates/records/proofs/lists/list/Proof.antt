@@ -1,11 +1,9 @@
 -- `lists::list` makes three lists of the gates' fields. The invariant: in each the entries passed are the fields, the rest as found. Leans on
 -- the laws of `Filled`.
-use mathlib.Core.Path.{refl, sym}
-use mathlib.Core.List.{List}
-use Prim.Native.Nat.{ℕ, _-_, _<_}
+use Prim.Native.Nat.{_-_}
 use native.Mathlib.Omega.{arith}
 use lib.ListN.{length}
-use Rattle.whole.specs.Lists.{Filled, fill-step, fill-end}
+use Rattle.whole.specs.Lists.{fill-end}
 use Rattle.records.proofs.Listing.{Listed, list-start, list-step}
 use Rattle.records.proofs.lists.list.Statement.{statement}
 use Rattle.records.proofs.lists.list.Tie as tie

@@ -1,10 +1,9 @@
 -- `plan::plan_first` plans the gates that are listed: the core is lent their fields, each list the first part of an array.
-use mathlib.Core.Path.{_≡_, refl, _∙_}
+use mathlib.Core.Path.{refl, _∙_}
 use Prim.Native.Nat.{ℕ, _≤_}
 use native.Mathlib.Omega.{arith}
-use lib.ListN.{take}
-use Rattle.records.specs.First.{listedCount, kindsOf, leftsOf, rightsOf, count-most, length-kinds, length-lefts, length-rights}
-use Rattle.records.proofs.Listing.{Lent, lent, first-few, plan-answer-fields, plan-bounds-fields}
+use Rattle.records.specs.First.{listedCount, count-most}
+use Rattle.records.proofs.Listing.{Lents, lents, first-few, plan-answer-lent, plan-bounds-lent}
 use borrow.Author.Needs.{needs}
 use Rattle.records.proofs.plan.plan_first.Statement.{statement}
 use Rattle.records.proofs.plan.plan_first.Tie as tie
@@ -53,14 +52,15 @@ start c = c .before .before .before .before .before .before
 abbrev count : tie.After-list → ℕ
 count c = c .before .before .before .before .listed-count .result
 
-kinds-lent : (c : tie.After-list) → Lent kindsOf (start c .args .first) (count c) (listedCount (start c .args .gates)) (c .list .last .1 .0)
-kinds-lent c = lent _ _ length-kinds (c .before .before .before .before .listed-count .ensures) (omega (arith, count-most (start c .args .gates))) (count-most _) (c .list .ensures .0)
-
-lefts-lent : (c : tie.After-list) → Lent leftsOf (start c .args .first) (count c) (listedCount (start c .args .gates)) (c .list .last .1 .1 .0)
-lefts-lent c = lent _ _ length-lefts (c .before .before .before .before .listed-count .ensures) (omega (arith, count-most (start c .args .gates))) (count-most _) (c .list .ensures .1 .0)
-
-rights-lent : (c : tie.After-list) → Lent rightsOf (start c .args .first) (count c) (listedCount (start c .args .gates)) (c .list .last .1 .1 .1 .0)
-rights-lent c = lent _ _ length-rights (c .before .before .before .before .listed-count .ensures) (omega (arith, count-most (start c .args .gates))) (count-most _) (c .list .ensures .1 .1)
+lent : (c : tie.After-list)
+    → Lents (start c .args .first) (count c) (listedCount (start c .args .gates)) (c .list .last .1 .0) (c .list .last .1 .1 .0) (c .list .last .1 .1 .1 .0)
+lent c =
+    lents
+    _
+    (c .before .before .before .before .listed-count .ensures)
+    (omega (arith, count-most (start c .args .gates)))
+    (count-most (start c .args .gates))
+    (c .list .ensures)
 
 sub-plan : tie.Need-sub-plan
 sub-plan c = search needs
@@ -69,7 +69,7 @@ part-plan-start : tie.Need-part-plan-start
 part-plan-start c = search needs
 
 part-plan-end : tie.Need-part-plan-end
-part-plan-end c = let l = c .before .before .before .before in kinds-lent l .holds _
+part-plan-end c = let l = c .before .before .before .before in lent l .kinds-lent .holds _
 
 sub-plan-2 : tie.Need-sub-plan-2
 sub-plan-2 c = search needs
@@ -78,7 +78,7 @@ part-plan-start-2 : tie.Need-part-plan-start-2
 part-plan-start-2 c = search needs
 
 part-plan-end-2 : tie.Need-part-plan-end-2
-part-plan-end-2 c = let l = c .before .before .before .before .before .before in lefts-lent l .holds _
+part-plan-end-2 c = let l = c .before .before .before .before .before .before in lent l .lefts-lent .holds _
 
 sub-plan-3 : tie.Need-sub-plan-3
 sub-plan-3 c = search needs
@@ -87,7 +87,7 @@ part-plan-start-3 : tie.Need-part-plan-start-3
 part-plan-start-3 c = search needs
 
 part-plan-end-3 : tie.Need-part-plan-end-3
-part-plan-end-3 c = let l = c .before .before .before .before .before .before .before .before in rights-lent l .holds _
+part-plan-end-3 c = let l = c .before .before .before .before .before .before .before .before in lent l .rights-lent .holds _
 
 plan-requires : tie.Need-plan-requires
 plan-requires c κs = search needs
@@ -99,10 +99,9 @@ returns : tie.Need-returns
 returns c =
     let l = c .before .before .before .before .before .before .before .before .before .before .before .before .before in
     let a = start l .args in
-    let gates = take (listedCount (a .gates)) (a .first) in
     let e = c .before .before .plan .ensures in (
-      rw (kinds-lent l .again, lefts-lent l .again, rights-lent l .again) at (e .0) ∙ plan-answer-fields (a .p) (a .inputs) gates (a .bounds .now),
-      rw (kinds-lent l .again, lefts-lent l .again, rights-lent l .again) at (e .1) ∙ plan-bounds-fields (a .p) (a .inputs) gates (a .bounds .now),
+      e .0 ∙ plan-answer-lent (a .p) (a .inputs) (lent l) _ _ _ (a .bounds .now),
+      e .1 ∙ plan-bounds-lent (a .p) (a .inputs) (lent l) _ _ _ (a .bounds .now),
     )
 
 pub plan-first-spec : {M : Type 1} → statement M
