@@ -3,6 +3,7 @@
 ghost use Rattle.stream.specs.Bounds.{Placed};
 
 mod ciphers;
+mod circuits;
 mod gate;
 mod keys;
 mod lent;
@@ -17,7 +18,7 @@ use read::STORE;
 // The most calls of a run. A proved loop has to end, and nothing says that the input does.
 const CALLS: usize = 4294967296;
 
-// Does the call and puts its answer into the text. The numbers of calls are 1 to 11 (`read`).
+// Does the call and puts its answer into the text. The numbers of calls are 1 to 13 (`read`).
 fn answer(call: &[i64], text: &mut [u8], at: usize, long: &mut [i64]) -> usize
     ensures { λ r. ⌜ Placed r (now (text .entry)) (now (text .exit)) ⌝ }
 {
@@ -32,7 +33,9 @@ fn answer(call: &[i64], text: &mut [u8], at: usize, long: &mut [i64]) -> usize
         8 => ciphers::decrypt(call, text, at),
         9 => gate::xor(call, text, at),
         10 => gate::not(call, text, at),
-        _ => gate::and(call, text, at),
+        11 => gate::and(call, text, at),
+        12 => circuits::plan(call, text, at),
+        _ => circuits::evaluate(call, text, at, long),
     }
 }
 

@@ -29,6 +29,18 @@ pub fn entries(text: &mut [u8], at: usize, xs: &[i64]) -> usize
     to
 }
 
+// Puts the numbers of 32 bits of a buffer, on the same terms.
+pub fn words(text: &mut [u8], at: usize, xs: &[u32]) -> usize
+    requires { ⌜ at ≤ length (now text) ⌝ }
+    ensures { λ r. ⌜ Placed r (now (text .entry)) (now (text .exit)) ⌝ }
+{
+    let mut to = at;
+    for i in 0..xs.len() {
+        to = unsigned(text, to, xs[i] as u64);
+    }
+    to
+}
+
 // Puts a number and its place.
 pub fn refusal(text: &mut [u8], at: usize, r: Refusal) -> usize
     ensures { λ r. ⌜ Placed r (now (text .entry)) (now (text .exit)) ⌝ }

@@ -8,7 +8,8 @@ use crate::width::count;
 use stream::Cursor;
 
 // What a call has at a place: nothing (O), a number of 32 bits from 0 up (W), a number of 64 bits
-// (X), a key (K), or a list of n, n² or n³ numbers of 64 bits (N1, N2, N3).
+// (X), a key (K), a list of n, n² or n³ numbers of 64 bits (N1, N2, N3), or a list with a number of 32
+// bits from 0 up for each gate or wire (U).
 const O: u8 = 0;
 
 const W: u8 = 1;
@@ -23,6 +24,8 @@ const N2: u8 = 5;
 
 const N3: u8 = 6;
 
+const U: u8 = 7;
+
 // The most entries of a key and of a list of n, n² and n³ entries. They serve up to n = 64, and a
 // little more, so that a wrong length can be tried.
 pub const SHORT: usize = 128;
@@ -31,23 +34,28 @@ pub const MIDDLE: usize = 4160;
 
 pub const LONG: usize = 262400;
 
-// The most numbers of a call: call 4 has the most, two lists of LONG among them.
-pub const STORE: usize = 530000;
+// The most entries of a list for gates or wires, of which a circuit has at most 4,096 and 5,120.
+pub const WIRES: usize = 5200;
+
+// The most numbers of a call: call 13 has the most, two lists of LONG among them.
+pub const STORE: usize = 550000;
 
 // What each call has after its number; there is no call 0. Five W are a parameter set.
-const SHAPES: [[u8; 12]; 12] = [
-    [O, O, O, O, O, O, O, O, O, O, O, O],
-    [W, W, W, W, W, O, O, O, O, O, O, O],
-    [W, O, O, O, O, O, O, O, O, O, O, O],
-    [W, W, W, W, W, K, O, O, O, O, O, O],
-    [W, W, W, W, W, K, N3, N2, N3, O, O, O],
-    [K, N1, N1, O, O, O, O, O, O, O, O, O],
-    [K, N1, N1, O, O, O, O, O, O, O, O, O],
-    [W, W, W, W, W, K, W, N1, X, N1, O, O],
-    [W, W, W, W, W, K, N1, O, O, O, O, O],
-    [W, W, W, W, W, N1, W, N1, W, N1, O, O],
-    [W, W, W, W, W, N1, W, N1, O, O, O, O],
-    [W, W, W, W, W, N1, W, N1, W, N3, N2, N1],
+const SHAPES: [[u8; 13]; 14] = [
+    [O, O, O, O, O, O, O, O, O, O, O, O, O],
+    [W, W, W, W, W, O, O, O, O, O, O, O, O],
+    [W, O, O, O, O, O, O, O, O, O, O, O, O],
+    [W, W, W, W, W, K, O, O, O, O, O, O, O],
+    [W, W, W, W, W, K, N3, N2, N3, O, O, O, O],
+    [K, N1, N1, O, O, O, O, O, O, O, O, O, O],
+    [K, N1, N1, O, O, O, O, O, O, O, O, O, O],
+    [W, W, W, W, W, K, W, N1, X, N1, O, O, O],
+    [W, W, W, W, W, K, N1, O, O, O, O, O, O],
+    [W, W, W, W, W, N1, W, N1, W, N1, O, O, O],
+    [W, W, W, W, W, N1, W, N1, O, O, O, O, O],
+    [W, W, W, W, W, N1, W, N1, W, N3, N2, N1, O],
+    [W, W, W, W, W, W, U, U, U, U, O, O, O],
+    [W, W, W, W, W, W, U, U, U, N3, U, N3, N2],
 ];
 
 // Where reading stands: what is left of the block that was read last, how many numbers the store
@@ -103,6 +111,9 @@ fn run(block: &mut [u8], r: Reader, store: &mut [i64], n: usize, low: i64, high:
 
 // The most entries of a list of a kind.
 fn most(kind: u8) -> i64 {
+    if kind == U {
+        return WIRES as i64;
+    }
     if kind == N3 {
         return LONG as i64;
     }
@@ -121,6 +132,9 @@ fn list(block: &mut [u8], r: Reader, store: &mut [i64], kind: u8) -> Reader {
     let n = count(counted.value);
     if kind == K {
         return run(block, counted, store, n, -2147483648, 2147483647);
+    }
+    if kind == U {
+        return run(block, counted, store, n, 0, 4294967295);
     }
     run(
         block,
@@ -150,9 +164,9 @@ fn part(block: &mut [u8], r: Reader, store: &mut [i64], kind: u8) -> Reader {
 }
 
 // Everything that a call has after its number.
-fn parts(block: &mut [u8], r: Reader, store: &mut [i64], shape: [u8; 12]) -> Reader {
+fn parts(block: &mut [u8], r: Reader, store: &mut [i64], shape: [u8; 13]) -> Reader {
     let mut now = r;
-    for i in 0..12 {
+    for i in 0..13 {
         let kind = shape[i];
         now = part(block, now, store, kind);
     }
@@ -160,9 +174,9 @@ fn parts(block: &mut [u8], r: Reader, store: &mut [i64], shape: [u8; 12]) -> Rea
 }
 
 // What the call of a number has.
-fn shape(number: i64) -> [u8; 12] {
+fn shape(number: i64) -> [u8; 13] {
     let k = count(number);
-    if k < 12 {
+    if k < 14 {
         return SHAPES[k];
     }
     SHAPES[0]
@@ -180,7 +194,7 @@ pub fn call(block: &mut [u8], from: Cursor, store: &mut [i64]) -> Reader
         value: 0,
         good: true,
     };
-    let number = take(block, start, store, 1, 11);
+    let number = take(block, start, store, 1, 13);
     let last = parts(block, number, store, shape(number.value));
     let cursor = last.cursor;
     if last.at <= store.len() {

@@ -8,10 +8,10 @@ use Rattle.replay.proofs.read.parts.Statement.{statement}
 use Rattle.replay.proofs.read.parts.Tie as tie
 
 abbrev Inv-loop : tie.InvT-loop
-Inv-loop block₀ store₀ shape now₀ i₀ block store now i = (i ≤ 12) × (length block ≡ length block₀) × (length store ≡ length store₀)
+Inv-loop block₀ store₀ shape now₀ i₀ block store now i = (i ≤ 13) × (length block ≡ length block₀) × (length store ≡ length store₀)
 
 abbrev μ-loop : tie.MeasureT-loop
-μ-loop block₀ store₀ shape now₀ i₀ block store now i = 12 - i
+μ-loop block₀ store₀ shape now₀ i₀ block store now i = 13 - i
 
 loop-holds : tie.Need-loop-holds Inv-loop μ-loop
 loop-holds c = omega arith

@@ -1,0 +1,91 @@
+-- `lent::words` copies a list's entries, each as a number of 32 bits from 0 up, to the front of a buffer that has room for them, and answers their count. The invariant:
+-- those passed stand there (`Put`); the measure is how many entries are left. Assumes nothing.
+use Prim.Native.Nat.{_≤_, _-_}
+use mathlib.Core.Path.{_≡_, sym, _∙_}
+use mathlib.Core.List.{map}
+use native.Mathlib.Omega.{arith}
+use lib.IntN.{pos}
+use lib.ListN.{length, getD, length-map}
+use mir.Facts.{toZ-ofZ}
+use mir.Syntax.{w64}
+use borrow.Author.Needs.{sfits-of}
+use Rattle.whole.specs.Lists.{getD-map}
+use Rattle.stream.specs.Front.{Put, put-none, put-more, put-all}
+use Rattle.replay.specs.Lent.{took-none, took-all}
+use Rattle.replay.specs.Width.{word}
+use Rattle.replay.proofs.lent.words.Statement.{statement}
+use Rattle.replay.proofs.lent.words.Tie as tie
+
+abbrev Inv-loop : tie.InvT-loop
+Inv-loop call at out₀ xs i₀ i-end out i = (i-end ≡ length xs) × (i ≤ i-end) × (length xs ≤ length out₀) × Put (map word xs) out₀ out i
+
+abbrev μ-loop : tie.MeasureT-loop
+μ-loop call at out₀ xs i₀ i-end out i = i-end - i
+
+list-requires : tie.Need-list-requires Inv-loop μ-loop
+list-requires c κs = tt
+
+returns : tie.Need-returns Inv-loop μ-loop
+returns c = rw (← c .before .list .ensures) (took-none _ _ (rw length-map (omega arith)))
+
+loop-holds : tie.Need-loop-holds Inv-loop μ-loop
+loop-holds c = (omega arith, omega arith, omega arith, put-none _ _)
+
+mul-word : tie.Need-mul-word Inv-loop μ-loop
+mul-word c = omega arith
+
+shared-slice-copy-out-word : tie.Need-shared-slice-copy-out-word Inv-loop μ-loop
+shared-slice-copy-out-word c = omega arith
+
+word-requires : tie.Need-word-requires Inv-loop μ-loop
+word-requires c κs = tt
+
+mul-out : tie.Need-mul-out Inv-loop μ-loop
+mul-out c = omega arith
+
+slice-write-out : tie.Need-slice-write-out Inv-loop μ-loop
+slice-write-out c = omega arith
+
+add-i : tie.Need-add-i Inv-loop μ-loop
+add-i c = omega arith
+
+loop-less : tie.Need-loop-less Inv-loop μ-loop
+loop-less c = omega arith
+
+loop-again : tie.Need-loop-again Inv-loop μ-loop
+loop-again c =
+    let s = c .before .before .before in
+    let xs = s .before .before .list .result .now in
+    let f = sfits-of {w = w64} {z = getD xs (s .loop .i) (pos 0)} (c .before .word-arg .given) in
+    let e = (simp (toZ-ofZ, f) at (c .word .ensures)) ∙ sym (getD-map word xs (s .loop .i) (pos 0) 0 (omega arith)) in
+    (omega arith, omega arith, omega arith, put-more (s .loop .inv .3) _ 0 (rw length-map (omega arith)) (rw length-map (omega arith)) e)
+
+same-length : tie.Need-same-length Inv-loop μ-loop
+same-length c = omega arith
+
+returns-2 : tie.Need-returns-2 Inv-loop μ-loop
+returns-2 c =
+    let s = c .before in
+    let xs = s .before .before .list .result .now in
+    rw (← s .before .before .list .ensures)
+    (rw (length-map xs word) at (took-all (map word xs) _ _ (rw length-map (omega arith)) (s .loop .inv .3 .kept) (put-all (s .loop .inv .3) (rw length-map (omega arith)))))
+
+pub words-spec : {M : Type 1} → statement M
+words-spec =
+    tie.close
+    (tie.spec
+    Inv-loop
+    μ-loop
+    list-requires
+    returns
+    loop-holds
+    mul-word
+    shared-slice-copy-out-word
+    word-requires
+    mul-out
+    slice-write-out
+    add-i
+    loop-less
+    loop-again
+    same-length
+    returns-2)
