@@ -1,18 +1,15 @@
--- The invariant of `list` and its laws: the fields of the first i gates are listed, the rest of each list is as found.
+-- Gates listed by their fields. The invariant of `list` and its laws: the fields of the first i gates are listed, the rest of each list is as
+-- found. And the lists that it leaves, lent to the numeric core.
 use mathlib.Core.Path.{_≡_, sym, ap, _∙_}
-use mathlib.Core.List.{List, _++_}
+use mathlib.Core.List.{List, _++_, map}
 use Prim.Native.Nat.{ℕ, _+_, _-_, _≤_, _<_}
 use native.Mathlib.Nat.{sub-zero}
 use native.Mathlib.Omega.{arith}
-use lib.IntN.{ℤ}
 use lib.ListN.{length, getD, take, set, length-take}
 use lib.Seq.{length-take-le, getD-take}
 use Rattle.whole.specs.Lists.{Filled, fill-start, fill-step, getD-map, put-first, put-holds}
-use Rattle.refusal.specs.declared.Params.{Params}
 use Rattle.circuit.specs.declared.Gate.{Gate}
-use Rattle.circuit.specs.Circuits.{planAnswer, planBounds, evaluateAnswer, evaluateWires, evaluateBounds, evaluateScratch}
-use Rattle.circuit.specs.Core.{planCoreAnswer, planCoreBounds, evaluateCoreAnswer, evaluateCoreWires, evaluateCoreBounds, evaluateCoreScratch}
-use Rattle.circuit.specs.Agree.{plan-answer-agrees, plan-bounds-agrees, evaluate-answer-agrees, evaluate-wires-agrees, evaluate-bounds-agrees, evaluate-scratch-agrees}
+use Rattle.circuit.specs.Core.{records}
 use Rattle.records.specs.First.{kindsOf, leftsOf, rightsOf, length-kinds, length-lefts, length-rights, records-fields}
 
 pub record Listed (first : List Gate) (kinds₀ lefts₀ rights₀ kinds lefts rights : List ℕ) (i : ℕ) : Type 0 where
@@ -43,28 +40,20 @@ module _ (first : List Gate) (kinds₀ lefts₀ rights₀ : List ℕ) where
     same : (z : Gate) → getD listed i z ≡ getD first i z
     same z = getD-take (length kinds₀) first i z l
 
-    getD-kinds : (z : Gate) → getD first i z .kind ≡ getD (kindsOf listed) i 0
-    unfolding kindsOf
-    getD-kinds z = sym (getD-map (λ g. g .kind) listed i z 0 inside ∙ ap (λ (g : Gate). g .kind) (same z))
-
-    getD-lefts : (z : Gate) → getD first i z .left ≡ getD (leftsOf listed) i 0
-    unfolding leftsOf
-    getD-lefts z = sym (getD-map (λ g. g .left) listed i z 0 inside ∙ ap (λ (g : Gate). g .left) (same z))
-
-    getD-rights : (z : Gate) → getD first i z .right ≡ getD (rightsOf listed) i 0
-    unfolding rightsOf
-    getD-rights z = sym (getD-map (λ g. g .right) listed i z 0 inside ∙ ap (λ (g : Gate). g .right) (same z))
+    getD-field : (field : Gate → ℕ) (z : Gate) → field (getD first i z) ≡ getD (map field listed) i 0
+    getD-field field z = sym (getD-map field listed i z 0 inside ∙ ap field (same z))
 
   -- the fields of the next gate stored
   pub list-step : {kinds lefts rights : List ℕ} {i : ℕ} → Listed first kinds₀ lefts₀ rights₀ kinds lefts rights i → (z : Gate) → i < length kinds₀
       → length lefts₀ ≡ length kinds₀ → length rights₀ ≡ length kinds₀
       → Listed first kinds₀ lefts₀ rights₀ (set kinds i (getD first i z .kind)) (set lefts i (getD first i z .left)) (set rights i (getD first i z .right)) (i + 1)
+  unfolding kindsOf leftsOf rightsOf
   list-step {kinds} {lefts} {rights} {i} f z l el er =
       record {
         few = f .few;
-        kinds-so-far = fill-step (f .kinds-so-far) _ 0 l (getD-kinds i (f .few) l z);
-        lefts-so-far = fill-step (f .lefts-so-far) _ 0 (omega arith) (getD-lefts i (f .few) l z);
-        rights-so-far = fill-step (f .rights-so-far) _ 0 (omega arith) (getD-rights i (f .few) l z);
+        kinds-so-far = fill-step (f .kinds-so-far) _ 0 l (getD-field i (f .few) l (λ g. g .kind) z);
+        lefts-so-far = fill-step (f .lefts-so-far) _ 0 (omega arith) (getD-field i (f .few) l (λ g. g .left) z);
+        rights-so-far = fill-step (f .rights-so-far) _ 0 (omega arith) (getD-field i (f .few) l (λ g. g .right) z);
       }
 
 -- ---- lists in the first part of an array
@@ -105,63 +94,15 @@ lents {kinds = kinds} {lefts = lefts} {rights = rights} found e h k f =
       rights-lent = lent found rights length-rights e h k (f .1 .1);
     }
 
--- ---- the core, of the fields of gates
+-- ---- what is worked of three lists and agrees with what is said of the gate records
 
-module _ (p : Params) (inputs : ℕ) (gates : List Gate) where
-  abbrev ks : List ℕ
-  ks = kindsOf gates
-
-  abbrev ls : List ℕ
-  ls = leftsOf gates
-
-  abbrev rs : List ℕ
-  rs = rightsOf gates
-
-  lefts-long : length ls ≡ length ks
-  lefts-long = length-lefts gates ∙ sym (length-kinds gates)
-
-  rights-long : length rs ≡ length ks
-  rights-long = length-rights gates ∙ sym (length-kinds gates)
-
-  plan-answer-fields : (Bs : List ℕ) → planCoreAnswer p inputs ks ls rs Bs ≡ planAnswer p inputs gates Bs
-  plan-answer-fields Bs = plan-answer-agrees p inputs ks ls rs lefts-long rights-long Bs ∙ rw records-fields
-
-  plan-bounds-fields : (Bs : List ℕ) → planCoreBounds p inputs ks ls rs Bs ≡ planBounds p inputs gates Bs
-  plan-bounds-fields Bs = plan-bounds-agrees p inputs ks ls rs lefts-long rights-long Bs ∙ rw records-fields
-
-  evaluate-answer-fields : (wires : List ℤ) (Bs : List ℕ) (W : List ℤ) (scratch : ℕ)
-      → evaluateCoreAnswer p inputs ks ls rs wires Bs W scratch ≡ evaluateAnswer p inputs gates wires Bs W scratch
-  evaluate-answer-fields wires Bs W scratch = evaluate-answer-agrees p inputs ks ls rs lefts-long rights-long wires Bs W scratch ∙ rw records-fields
-
-  module _ (wires : List ℤ) (Bs : List ℕ) (W scratch : List ℤ) where
-    evaluate-wires-fields : evaluateCoreWires p inputs ks ls rs wires Bs W scratch ≡ evaluateWires p inputs gates wires Bs W scratch
-    evaluate-wires-fields = evaluate-wires-agrees p inputs ks ls rs lefts-long rights-long wires Bs W scratch ∙ rw records-fields
-
-    evaluate-bounds-fields : evaluateCoreBounds p inputs ks ls rs wires Bs W scratch ≡ evaluateBounds p inputs gates wires Bs W scratch
-    evaluate-bounds-fields = evaluate-bounds-agrees p inputs ks ls rs lefts-long rights-long wires Bs W scratch ∙ rw records-fields
-
-    evaluate-scratch-fields : evaluateCoreScratch p inputs ks ls rs wires Bs W scratch ≡ evaluateScratch p inputs gates wires Bs W scratch
-    evaluate-scratch-fields = evaluate-scratch-agrees p inputs ks ls rs lefts-long rights-long wires Bs W scratch ∙ rw records-fields
-
--- ---- the core, of the lists that were put in and are lent again
-
-module _ (p : Params) (inputs : ℕ) {first : List Gate} {n m : ℕ} {kinds lefts rights : List ℕ} (f : Lents first n m kinds lefts rights) (k l r : List ℕ) where
-  pub plan-answer-lent : (Bs : List ℕ) → planCoreAnswer p inputs (front n kinds k) (front n lefts l) (front n rights r) Bs ≡ planAnswer p inputs (take m first) Bs
-  plan-answer-lent Bs = rw (f .kinds-lent .again, f .lefts-lent .again, f .rights-lent .again) (plan-answer-fields p inputs (take m first) Bs)
-
-  pub plan-bounds-lent : (Bs : List ℕ) → planCoreBounds p inputs (front n kinds k) (front n lefts l) (front n rights r) Bs ≡ planBounds p inputs (take m first) Bs
-  plan-bounds-lent Bs = rw (f .kinds-lent .again, f .lefts-lent .again, f .rights-lent .again) (plan-bounds-fields p inputs (take m first) Bs)
-
-  pub evaluate-answer-lent : (wires : List ℤ) (Bs : List ℕ) (W : List ℤ) (scratch : ℕ)
-      → evaluateCoreAnswer p inputs (front n kinds k) (front n lefts l) (front n rights r) wires Bs W scratch ≡ evaluateAnswer p inputs (take m first) wires Bs W scratch
-  evaluate-answer-lent wires Bs W scratch = rw (f .kinds-lent .again, f .lefts-lent .again, f .rights-lent .again) (evaluate-answer-fields p inputs (take m first) wires Bs W scratch)
-
-  module _ (wires : List ℤ) (Bs : List ℕ) (W scratch : List ℤ) where
-    pub evaluate-wires-lent : evaluateCoreWires p inputs (front n kinds k) (front n lefts l) (front n rights r) wires Bs W scratch ≡ evaluateWires p inputs (take m first) wires Bs W scratch
-    evaluate-wires-lent = rw (f .kinds-lent .again, f .lefts-lent .again, f .rights-lent .again) (evaluate-wires-fields p inputs (take m first) wires Bs W scratch)
-
-    pub evaluate-bounds-lent : evaluateCoreBounds p inputs (front n kinds k) (front n lefts l) (front n rights r) wires Bs W scratch ≡ evaluateBounds p inputs (take m first) wires Bs W scratch
-    evaluate-bounds-lent = rw (f .kinds-lent .again, f .lefts-lent .again, f .rights-lent .again) (evaluate-bounds-fields p inputs (take m first) wires Bs W scratch)
-
-    pub evaluate-scratch-lent : evaluateCoreScratch p inputs (front n kinds k) (front n lefts l) (front n rights r) wires Bs W scratch ≡ evaluateScratch p inputs (take m first) wires Bs W scratch
-    evaluate-scratch-lent = rw (f .kinds-lent .again, f .lefts-lent .again, f .rights-lent .again) (evaluate-scratch-fields p inputs (take m first) wires Bs W scratch)
+pub lent-agrees : {X : Type 0} {first : List Gate} {n m : ℕ} {kinds lefts rights : List ℕ} (f : List ℕ → List ℕ → List ℕ → X) (g : List Gate → X)
+    → ((ks ls rs : List ℕ) → length ls ≡ length ks → length rs ≡ length ks → f ks ls rs ≡ g (records ks ls rs))
+    → Lents first n m kinds lefts rights → (k l r : List ℕ) → f (front n kinds k) (front n lefts l) (front n rights r) ≡ g (take m first)
+lent-agrees {first = first} {m = m} f g agrees lists k l r =
+    rw (lists .kinds-lent .again, lists .lefts-lent .again, lists .rights-lent .again) (fields (take m first))
+  where
+    fields : (gates : List Gate) → f (kindsOf gates) (leftsOf gates) (rightsOf gates) ≡ g gates
+    fields gates =
+        agrees (kindsOf gates) (leftsOf gates) (rightsOf gates) (length-lefts gates ∙ sym (length-kinds gates)) (length-rights gates ∙ sym (length-kinds gates))
+        ∙ ap g (records-fields gates)

@@ -3,8 +3,11 @@ use mathlib.Core.Path.{refl, _∙_}
 use Prim.Native.Nat.{ℕ, _≤_}
 use native.Mathlib.Omega.{arith}
 use lib.ListN.{length}
+use Rattle.circuit.specs.Circuits.{evaluateAnswer, evaluateWires, evaluateBounds, evaluateScratch}
+use Rattle.circuit.specs.Core.{evaluateCoreAnswer, evaluateCoreWires, evaluateCoreBounds, evaluateCoreScratch}
+use Rattle.circuit.specs.Agree.{evaluate-answer-agrees, evaluate-wires-agrees, evaluate-bounds-agrees, evaluate-scratch-agrees}
 use Rattle.records.specs.First.{listedCount, count-most}
-use Rattle.records.proofs.Listing.{Lents, lents, first-few, evaluate-answer-lent, evaluate-wires-lent, evaluate-bounds-lent, evaluate-scratch-lent}
+use Rattle.records.proofs.Listing.{Lents, lents, first-few, lent-agrees}
 use borrow.Author.Needs.{needs}
 use Rattle.records.proofs.evaluate.evaluate_first.Statement.{statement}
 use Rattle.records.proofs.evaluate.evaluate_first.Tie as tie
@@ -106,13 +109,36 @@ returns : tie.Need-returns
 returns c =
     let l = c .before .before .before .before .before .before .before .before .before .before .before .before .before .before .before .before .before in
     let a = start l .args in
+    let ws = a .wires .now in
+    let Bs = a .bounds .now in
+    let W = a .key .now in
     let e = c .before .before .before .before .evaluate .ensures in (
-      e .0 ∙ evaluate-answer-lent (a .p) (a .inputs) (lent l) _ _ _ (a .wires .now) (a .bounds .now) (a .key .now) (length (a .scratch .now)),
+      e .0
+          ∙ lent-agrees
+          (λ ks ls rs. evaluateCoreAnswer (a .p) (a .inputs) ks ls rs ws Bs W (length (a .scratch .now)))
+          (λ gates. evaluateAnswer (a .p) (a .inputs) gates ws Bs W (length (a .scratch .now)))
+          (λ ks ls rs el er. evaluate-answer-agrees (a .p) (a .inputs) ks ls rs el er ws Bs W (length (a .scratch .now)))
+          (lent l) _ _ _,
       (
-        e .1 .0 ∙ evaluate-wires-lent (a .p) (a .inputs) (lent l) _ _ _ (a .wires .now) (a .bounds .now) (a .key .now) (a .scratch .now),
+        e .1 .0
+            ∙ lent-agrees
+            (λ ks ls rs. evaluateCoreWires (a .p) (a .inputs) ks ls rs ws Bs W (a .scratch .now))
+            (λ gates. evaluateWires (a .p) (a .inputs) gates ws Bs W (a .scratch .now))
+            (λ ks ls rs el er. evaluate-wires-agrees (a .p) (a .inputs) ks ls rs el er ws Bs W (a .scratch .now))
+            (lent l) _ _ _,
         (
-          e .1 .1 .0 ∙ evaluate-bounds-lent (a .p) (a .inputs) (lent l) _ _ _ (a .wires .now) (a .bounds .now) (a .key .now) (a .scratch .now),
-          e .1 .1 .1 ∙ evaluate-scratch-lent (a .p) (a .inputs) (lent l) _ _ _ (a .wires .now) (a .bounds .now) (a .key .now) (a .scratch .now),
+          e .1 .1 .0
+              ∙ lent-agrees
+              (λ ks ls rs. evaluateCoreBounds (a .p) (a .inputs) ks ls rs ws Bs W (a .scratch .now))
+              (λ gates. evaluateBounds (a .p) (a .inputs) gates ws Bs W (a .scratch .now))
+              (λ ks ls rs el er. evaluate-bounds-agrees (a .p) (a .inputs) ks ls rs el er ws Bs W (a .scratch .now))
+              (lent l) _ _ _,
+          e .1 .1 .1
+              ∙ lent-agrees
+              (λ ks ls rs. evaluateCoreScratch (a .p) (a .inputs) ks ls rs ws Bs W (a .scratch .now))
+              (λ gates. evaluateScratch (a .p) (a .inputs) gates ws Bs W (a .scratch .now))
+              (λ ks ls rs el er. evaluate-scratch-agrees (a .p) (a .inputs) ks ls rs el er ws Bs W (a .scratch .now))
+              (lent l) _ _ _,
         ),
       ),
     )

@@ -168,7 +168,8 @@ module _ {M : Type 1} (𝓤 : URA M) (H : Heap 𝓤) (A : Atoms 𝓤) (W : Given
       → ent 𝓤 (⋆ 𝓤 H A (‵ (R.the-row .own r (u ∷ [])) ∷ Alive ∷ ‵ (finally i64 (scratch .name) ss) ∷ ‵ (finally u32 (bounds .name) bs) ∷ ‵ (finally i64 (wires .name) ws) ∷ (‵ (flft κ q) ⊛ ‵ ftrue) ∷ ‵ (Gates κ x) ∷ ‵ Key ∷ [])) (Post u)
   exits r u ws bs ss e₁ e₂ e₃ e₄ lw lb ls =
       qed W (‵ (R.the-row .own r (u ∷ [])) ∷ Alive ∷ ‵ (finally i64 (scratch .name) ss) ∷ ‵ (finally u32 (bounds .name) bs) ∷ ‵ (finally i64 (wires .name) ws) ∷ (‵ (flft κ q) ⊛ ‵ ftrue) ∷ ‵ (Gates κ x) ∷ ‵ Key ∷ []) ∵
-      suffices ! _ (ends-at 𝓤 H A eval.ended stayed (eval.clauses 𝓤 H A mem run) W bound u r (tt, (tt, (tt, (ws, (bs, (tt, (ss, tt))))))) (tt, (tt, (tt, (lw, (lb, (tt, (ls, tt)))))))) $ says4 ! e₁ e₂ e₃ e₄ $
+      suffices ! _ (ends-at 𝓤 H A eval.ended stayed (eval.clauses 𝓤 H A mem run) W bound u r (tt, (tt, (tt, (ws, (bs, (tt, (ss, tt))))))) (tt, (tt, (tt, (lw, (lb, (tt, (ls, tt)))))))) $
+      says4 ! e₁ e₂ e₃ e₄ $
       move ! (5 ∷ []) $ split ! $ move ! (1 ∷ []) $ drop ! $ move ! (0 ∷ 2 ∷ []) $ join ! $ frame ! $
       -- [the result; the last scratch, bounds and wires; what the gates and the key own]
       nothing ! $ move ! (2 ∷ 0 ∷ []) $ fjoin ! $ move ! (5 ∷ 0 ∷ []) $ fjoin ! $ move ! (2 ∷ 0 ∷ []) $ fjoin ! $ move ! (2 ∷ 0 ∷ []) $ fjoin ! $ move ! (2 ∷ 0 ∷ []) $ fjoin ! $
@@ -183,7 +184,8 @@ module _ {M : Type 1} (𝓤 : URA M) (H : Heap 𝓤) (A : Atoms 𝓤) (W : Given
         enter ! (𝓣 .C) (𝓣 .Λ) code.function (vp ∷ vint w32 inputs ∷ slice x ∷ vw ∷ vb ∷ vk ∷ vs ∷ []) _ $
         alloc1 ! (λ l₀. alloc1 ! (λ l₁. alloc1 ! (λ l₂. alloc1 ! (λ l₃. alloc1 ! (λ l₄. alloc1 ! (λ l₅. alloc1 ! (λ l₆. alloc1 ! (λ l₇. alloc1 ! (λ l₈. alloc1 ! (λ l₉. alloc1 ! (λ l₁₀. alloc1 ! (λ l₁₁. alloc1 ! (λ l₁₂. alloc1 ! (λ l₁₃. alloc1 ! (λ l₁₄. alloc1 ! (λ l₁₅. alloc0 ! $ params1 ! $
         pass1 ! (init ! 28 refl (LL.lawful P.the-type P′.the-laws 𝓤 H A W .typed p _ p-is .0)) $ pass1 ! (init ! 26 refl (tt, record { fits = inputs-fit })) $
-        pass1 ! (init ! 24 refl (tt, (tt, (record { fits = g .0 }, tt)))) $ pass1 ! (init ! 22 refl (tt, (tt, (record { fits = gw .0 }, tt)))) $ pass1 ! (init ! 20 refl (tt, (tt, (record { fits = gb .0 }, tt)))) $
+        pass1 ! (init ! 24 refl (tt, (tt, (record { fits = g .0 }, tt)))) $ pass1 ! (init ! 22 refl (tt, (tt, (record { fits = gw .0 }, tt)))) $
+        pass1 ! (init ! 20 refl (tt, (tt, (record { fits = gb .0 }, tt)))) $
         pass1 ! (init ! 18 refl (tt, (tt, (record { fits = gk .0 }, tt)))) $ pass1 ! (init ! 16 refl (tt, (tt, (record { fits = gs .0 }, tt)))) $ pass0 ! $
         -- what the gates own is had twice, and what the key owns
         move ! (33 ∷ []) $ fsplit ! $ drop ! $ fsplit ! $ drop ! $ fsplit ! $ move ! (1 ∷ []) $ use1 W (‵ Lent ⊛ ‵ Key) keeps-key $ split ! $ move ! (2 ∷ []) $
@@ -203,7 +205,8 @@ module _ {M : Type 1} (𝓤 : URA M) (H : Heap 𝓤) (A : Atoms 𝓤) (W : Given
         calls-at ! (fmOf 𝓤 H (W .laws) 𝓣) (Work 𝓤 H A mem run) known-work (to-work u)
         (and-then ! (load ! (from ! (stop !)) (look ! 32 refl)) (and-then ! (load ! (from ! (stop !)) (look ! 30 refl)) (and-then ! (load ! (from ! (stop !)) (look ! 18 refl)) (and-then ! (load ! (from ! (stop !)) (look ! 16 refl))
         (and-then ! (load ! (from ! (stop !)) (look ! 12 refl)) (and-then ! (load ! (from ! (stop !)) (look ! 8 refl)) (and-then ! (load ! (from ! (stop !)) (look ! 22 refl)) (and-then ! (load ! (from ! (stop !)) (look ! 4 refl)) (no-more !))))))))) (λ u′.
-        use1 W (later (some (λ (t : Refusal). (Alive ⊛ ‵ (R.the-row .own t (u′ ∷ []))) ⊛ raw (ensured 𝓤 H A work.ended (work.clauses 𝓤 H A mem run) κs passed tt t)))) (id⊢ 𝓤 _) $ await ! tt $ pick ! (λ t.
+        use1 W (later (some (λ (t : Refusal). (Alive ⊛ ‵ (R.the-row .own t (u′ ∷ []))) ⊛ raw (ensured 𝓤 H A work.ended (work.clauses 𝓤 H A mem run) κs passed tt t)))) (id⊢ 𝓤 _) $
+        await ! tt $ pick ! (λ t.
         split ! $ move ! (1 ∷ []) $
         use1 W (some (λ (zs : Lasts work.ended κs passed). ‵ (lasts work.ended κs passed zs)
         ⊛ raw (fact 𝓤 (Answers (take (listedCount n) (firstGates (x .now))) t)) ⊛ raw (fact 𝓤 (Wires (take (listedCount n) (firstGates (x .now))) (zs .1 .1 .1 .1 .0)))
@@ -212,7 +215,8 @@ module _ {M : Type 1} (𝓤 : URA M) (H : Heap 𝓤) (A : Atoms 𝓤) (W : Given
         split ! $ heard ! (Wires (take (listedCount n) (firstGates (x .now))) (zs .1 .1 .1 .1 .0)) (λ e₂.
         split ! $ heard ! (Bounds (take (listedCount n) (firstGates (x .now))) (zs .1 .1 .1 .1 .1 .0)) (λ e₃.
         heard ! (Scratch (take (listedCount n) (firstGates (x .now))) (zs .1 .1 .1 .1 .1 .1 .1 .0)) (λ e₄.
-        fsplit ! $ drop ! $ fsplit ! $ drop ! $ fsplit ! $ drop ! $ fsplit ! $ drop ! $ fsplit ! $ fsplit ! $ move ! (1 ∷ []) $ feqL ! (λ lw. move ! (1 ∷ []) $ fsplit ! $ fsplit ! $ move ! (1 ∷ []) $ feqL ! (λ lb.
+        fsplit ! $ drop ! $ fsplit ! $ drop ! $ fsplit ! $ drop ! $ fsplit ! $ drop ! $ fsplit ! $ fsplit ! $ move ! (1 ∷ []) $ feqL ! (λ lw. move ! (1 ∷ []) $ fsplit ! $ fsplit ! $
+        move ! (1 ∷ []) $ feqL ! (λ lb.
         move ! (1 ∷ []) $ fsplit ! $ drop ! $ fsplit ! $ fsplit ! $ move ! (1 ∷ []) $ feqL ! (λ ls. move ! (1 ∷ []) $ drop ! $ move ! (3 ∷ []) $ split ! $ move ! (1 ∷ []) $
         -- [the result; the tokens of the buffers; the last scratch, bounds and wires; the token of the gates; what the gates and the key own; _15; …; room for _0; …]
         peeks ! R.the-row (Is R.the-row) (shows 𝓤 H A R.the-row) t (u′ ∷ []) (λ is′.
@@ -225,7 +229,8 @@ module _ {M : Type 1} (𝓤 : URA M) (H : Heap 𝓤) (A : Atoms 𝓤) (W : Given
         (e₂ ∙ evaluate-wires-enough p inputs (x .now) (bounds .now) (wires .now) (key .now) (scratch .now)) (e₃ ∙ evaluate-bounds-enough p inputs (x .now) (bounds .now) (wires .now) (key .now) (scratch .now))
         (e₄ ∙ evaluate-scratch-enough p inputs (x .now) (bounds .now) (wires .now) (key .now) (scratch .now)) lw lb ls)))))))))))))))))))))))))))))
 
-module _ {M : Type 1} (𝓤 : URA M) (H : Heap 𝓤) (A : Atoms 𝓤) (W : Given 𝓤 H A) (mem : Memory → SProp 𝓤) (run : Routine → Fun 𝓤) (𝓣 : Tables 𝓤 H) (known-first : Triple 𝓤 (𝓣 .C #first) (First 𝓤 H A mem run)) (known-work : Triple 𝓤 (𝓣 .C #work) (Work 𝓤 H A mem run)) where
+module _ {M : Type 1} (𝓤 : URA M) (H : Heap 𝓤) (A : Atoms 𝓤) (W : Given 𝓤 H A) (mem : Memory → SProp 𝓤) (run : Routine → Fun 𝓤) (𝓣 : Tables 𝓤 H)
+    (known-first : Triple 𝓤 (𝓣 .C #first) (First 𝓤 H A mem run)) (known-work : Triple 𝓤 (𝓣 .C #work) (Work 𝓤 H A mem run)) where
   evaluate-walks : Walks 𝓤 H A eval.ended stayed (WpFn 𝓤 H (𝓣 .C) (𝓣 .Λ) code.function) (eval.clauses 𝓤 H A mem run)
   evaluate-walks = walked 𝓤 H A eval.ended stayed (eval.clauses 𝓤 H A mem run) (WpFn 𝓤 H (𝓣 .C) (𝓣 .Λ) code.function)
       (λ κs. (LL.vals P.the-type P′.the-laws, (uint-vals w32, (slice-vals, (slice-vals, (slice-vals, (slice-vals, (slice-vals, tt))))))))

@@ -97,7 +97,8 @@ module _ {M : Type 1} (𝓤 : URA M) (H : Heap 𝓤) (A : Atoms 𝓤) (mem : Mem
   emptied : (r : List Gate) → ent 𝓤 (ensured 𝓤 H A none.ended (none.clauses 𝓤 H A mem run) tt tt tt r) (fact 𝓤 (r ≡ noGates))
   emptied r = exE 𝓤 _ (λ ws. snd∗ 𝓤 (sem 𝓤 H A (lasts none.ended tt tt ws)) (fact 𝓤 (r ≡ noGates)))
 
-module _ {M : Type 1} (𝓤 : URA M) (H : Heap 𝓤) (A : Atoms 𝓤) (W : Given 𝓤 H A) (mem : Memory → SProp 𝓤) (run : Routine → Fun 𝓤) (κ : Lft) (q : Share) (b o : ℕ) (γ : GName) (gs : List Gate) where
+module _ {M : Type 1} (𝓤 : URA M) (H : Heap 𝓤) (A : Atoms 𝓤) (W : Given 𝓤 H A) (mem : Memory → SProp 𝓤) (run : Routine → Fun 𝓤) (κ : Lft) (q : Share) (b o : ℕ) (γ : GName)
+    (gs : List Gate) where
   abbrev n : ℕ
   n = length gs
 
@@ -273,14 +274,16 @@ module _ {M : Type 1} (𝓤 : URA M) (H : Heap 𝓤) (A : Atoms 𝓤) (W : Given
         -- `listed_count`
         owned ! usize (Is usize) (uint-makes 𝓤 H A W w64) n (vint w64 n ∷ []) (refl, g .0) $ use1 W (raw (Count 𝓤 H A mem run .pre to-count)) goes-count $
         calls-at ! (fmOf 𝓤 H (W .laws) 𝓣) (Count 𝓤 H A mem run) known-count to-count (and-then ! (load ! (from ! (stop !)) (look ! 17 refl)) (no-more !)) (λ v.
-        use1 W (later (some (λ (r : ℕ). (‵ ftrue ⊛ ‵ (usize .own r (v ∷ []))) ⊛ raw (ensured 𝓤 H A count.ended (count.clauses 𝓤 H A mem run) tt (n, tt) tt r)))) (id⊢ 𝓤 _) $ await ! tt $ pick ! (λ r.
+        use1 W (later (some (λ (r : ℕ). (‵ ftrue ⊛ ‵ (usize .own r (v ∷ []))) ⊛ raw (ensured 𝓤 H A count.ended (count.clauses 𝓤 H A mem run) tt (n, tt) tt r)))) (id⊢ 𝓤 _) $ await ! tt $
+        pick ! (λ r.
         split ! $ move ! (1 ∷ []) $ use1 W (raw (fact 𝓤 (r ≡ m))) (counted 𝓤 H A mem run n r) $ heard ! (r ≡ m) (λ e. split ! $ drop ! $
         peeks ! usize (Is usize) (shows 𝓤 H A usize) r (v ∷ []) (λ is. land ! (from ! (stop !)) (init ! 23 refl (uint-lawful 𝓤 H A W w64 .typed r _ is .0)) $ drop ! $
         rewrite ! 22 (λ (u : Val). ‵ (fat fullShare word l₂ 0 u)) (ap only (is .0) ∙ ap (vint w64) e) refl $
         -- `no_gates`
         use0 W (raw (None 𝓤 H A mem run .pre to-none)) goes-none $
         calls-at ! (fmOf 𝓤 H (W .laws) 𝓣) (None 𝓤 H A mem run) known-none to-none (no-more !) (λ u.
-        use1 W (later (some (λ (zs : List Gate). (‵ ftrue ⊛ ‵ (Arr .own zs (u ∷ []))) ⊛ raw (ensured 𝓤 H A none.ended (none.clauses 𝓤 H A mem run) tt tt tt zs)))) (id⊢ 𝓤 _) $ await ! tt $ pick ! (λ zs.
+        use1 W (later (some (λ (zs : List Gate). (‵ ftrue ⊛ ‵ (Arr .own zs (u ∷ []))) ⊛ raw (ensured 𝓤 H A none.ended (none.clauses 𝓤 H A mem run) tt tt tt zs)))) (id⊢ 𝓤 _) $ await ! tt $
+        pick ! (λ zs.
         split ! $ move ! (1 ∷ []) $ use1 W (raw (fact 𝓤 (zs ≡ noGates))) (emptied 𝓤 H A mem run zs) $ heard ! (zs ≡ noGates) (λ e′. split ! $ drop ! $
         peeks ! Arr (Is Arr) (shows 𝓤 H A Arr) zs (u ∷ []) (λ is′. land ! (from ! (stop !)) (init ! 15 refl (array-typed 𝓤 H A W zs u is′)) $
         assigns ! (of-opd ! (load ! (from ! (stop !)) (look ! 15 refl))) (from ! (stop !)) (init ! 21 refl (array-typed 𝓤 H A W zs u is′)) $
@@ -295,7 +298,8 @@ module _ {M : Type 1} (𝓤 : URA M) (H : Heap 𝓤) (A : Atoms 𝓤) (W : Given
         keep ! (0 ∷ 7 ∷ 26 ∷ 20 ∷ 18 ∷ 16 ∷ 14 ∷ 12 ∷ 10 ∷ 8 ∷ 31 ∷ 29 ∷ 33 ∷ 24 ∷ 22 ∷ 1 ∷ 2 ∷ 4 ∷ 5 ∷ 34 ∷ 32 ∷ 30 ∷ 28 ∷ 27 ∷ 25 ∷ 23 ∷ 21 ∷ 19 ∷ 17 ∷ 15 ∷ 13 ∷ 11 ∷ 9 ∷ []) $
         by ! (loops 𝓣 g q′ l₀ l₁ l₂ l₃ l₄ l₅ l₆ l₇ l₈ l₉ l₁₀ l₁₁ l₁₂ l₁₃))))))))))))))))))))))))
 
-module _ {M : Type 1} (𝓤 : URA M) (H : Heap 𝓤) (A : Atoms 𝓤) (W : Given 𝓤 H A) (mem : Memory → SProp 𝓤) (run : Routine → Fun 𝓤) (𝓣 : Tables 𝓤 H) (known-count : Triple 𝓤 (𝓣 .C #count) (Count 𝓤 H A mem run)) (known-none : Triple 𝓤 (𝓣 .C #none) (None 𝓤 H A mem run)) where
+module _ {M : Type 1} (𝓤 : URA M) (H : Heap 𝓤) (A : Atoms 𝓤) (W : Given 𝓤 H A) (mem : Memory → SProp 𝓤) (run : Routine → Fun 𝓤) (𝓣 : Tables 𝓤 H)
+    (known-count : Triple 𝓤 (𝓣 .C #count) (Count 𝓤 H A mem run)) (known-none : Triple 𝓤 (𝓣 .C #none) (None 𝓤 H A mem run)) where
   first-walks : Walks 𝓤 H A first.ended stayed (WpFn 𝓤 H (𝓣 .C) (𝓣 .Λ) code.function) (first.clauses 𝓤 H A mem run)
   first-walks = walked 𝓤 H A first.ended stayed (first.clauses 𝓤 H A mem run) (WpFn 𝓤 H (𝓣 .C) (𝓣 .Λ) code.function) (λ κs. (slice-vals, tt)) (λ κs. (shr-slice-tells (named 0) (κs .0) Row, tt))
       (λ κs qs bounds a _ are. via 𝓤 _ (fst∗ 𝓤 _ (emp 𝓤)) (walk 𝓤 H A W mem run (κs .0) (qs .0) (a .0 .ptr .0) (a .0 .ptr .1) (a .0 .name) (a .0 .now) 𝓣 known-count known-none (are .0 .0 .1)))

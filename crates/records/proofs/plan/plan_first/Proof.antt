@@ -2,8 +2,11 @@
 use mathlib.Core.Path.{refl, _∙_}
 use Prim.Native.Nat.{ℕ, _≤_}
 use native.Mathlib.Omega.{arith}
+use Rattle.circuit.specs.Circuits.{planAnswer, planBounds}
+use Rattle.circuit.specs.Core.{planCoreAnswer, planCoreBounds}
+use Rattle.circuit.specs.Agree.{plan-answer-agrees, plan-bounds-agrees}
 use Rattle.records.specs.First.{listedCount, count-most}
-use Rattle.records.proofs.Listing.{Lents, lents, first-few, plan-answer-lent, plan-bounds-lent}
+use Rattle.records.proofs.Listing.{Lents, lents, first-few, lent-agrees}
 use borrow.Author.Needs.{needs}
 use Rattle.records.proofs.plan.plan_first.Statement.{statement}
 use Rattle.records.proofs.plan.plan_first.Tie as tie
@@ -99,9 +102,20 @@ returns : tie.Need-returns
 returns c =
     let l = c .before .before .before .before .before .before .before .before .before .before .before .before .before in
     let a = start l .args in
+    let Bs = a .bounds .now in
     let e = c .before .before .plan .ensures in (
-      e .0 ∙ plan-answer-lent (a .p) (a .inputs) (lent l) _ _ _ (a .bounds .now),
-      e .1 ∙ plan-bounds-lent (a .p) (a .inputs) (lent l) _ _ _ (a .bounds .now),
+      e .0
+          ∙ lent-agrees
+          (λ ks ls rs. planCoreAnswer (a .p) (a .inputs) ks ls rs Bs)
+          (λ gates. planAnswer (a .p) (a .inputs) gates Bs)
+          (λ ks ls rs el er. plan-answer-agrees (a .p) (a .inputs) ks ls rs el er Bs)
+          (lent l) _ _ _,
+      e .1
+          ∙ lent-agrees
+          (λ ks ls rs. planCoreBounds (a .p) (a .inputs) ks ls rs Bs)
+          (λ gates. planBounds (a .p) (a .inputs) gates Bs)
+          (λ ks ls rs el er. plan-bounds-agrees (a .p) (a .inputs) ks ls rs el er Bs)
+          (lent l) _ _ _,
     )
 
 pub plan-first-spec : {M : Type 1} → statement M
