@@ -1,6 +1,5 @@
 pub mod Circuits
 pub mod Core
-pub mod Ready
 pub mod Run
 pub mod Records
 pub mod Wires

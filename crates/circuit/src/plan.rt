@@ -16,7 +16,7 @@ use refusal::Refusal;
 use regev::gates::and_bound;
 
 // The bound of one gate's wire, before it is held to the budget.
-pub fn gate_bound(p: Params, kind: u32, b1: u32, b2: u32) -> u64
+fn gate_bound(p: Params, kind: u32, b1: u32, b2: u32) -> u64
     requires { ⌜ InRange p × (4 * b1 < p .q) × (4 * b2 < p .q) ⌝ }
     ensures { λ r. ⌜ (r ≡ byKind kind (XOR-bound b1 b2) (AND-bound (p .n) (p .q) (p .l) (p .f) b1 b2) (NOT-bound b1)) × (r ≤ 1099511627776) ⌝ }
 {
@@ -31,7 +31,7 @@ pub fn gate_bound(p: Params, kind: u32, b1: u32, b2: u32) -> u64
 
 // Settles the budget: fills the bounds of the gates behind those of the inputs, up to the first gate whose bound does not fit. Answers that
 // gate, or the number of gates where all fit.
-pub fn settle(
+fn settle(
     p: Params,
     inputs: usize,
     kinds: &[u32],
@@ -60,7 +60,7 @@ pub fn settle(
 }
 
 // Copies bounds.
-pub fn copy_bounds(from: &[u32], out: &mut [u32])
+fn copy_bounds(from: &[u32], out: &mut [u32])
     requires { ⌜ length (now from) ≡ length (now out) ⌝ }
     ensures { λ r. ⌜ now (out .exit) ≡ now (from .entry) ⌝ }
 {

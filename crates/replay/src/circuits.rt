@@ -71,17 +71,7 @@ fn put_evaluated(
 ) -> usize
     ensures { λ r. ⌜ Placed r (now (text .entry)) (now (text .exit)) ⌝ }
 {
-    let answer = circuit::evaluate::evaluate(
-        p,
-        inputs,
-        kinds,
-        lefts,
-        rights,
-        wires,
-        bounds,
-        key,
-        scratch,
-    );
+    let answer = evaluation::evaluate(p, inputs, kinds, lefts, rights, wires, bounds, key, scratch);
     let to = print::refusal(text, at, answer);
     let after = print::entries(text, to, wires);
     let end = print::words(text, after, bounds);

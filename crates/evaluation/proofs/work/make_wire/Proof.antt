@@ -1,10 +1,10 @@
--- `evaluate::make_wire` makes what the gate's kind says, each kind by what its function of the ciphertext crate ensures.
+-- `work::make_wire` makes what the gate's kind says, each kind by what its function of the ciphertext crate ensures.
 use mathlib.Core.Path.{sym, _∙_}
 use borrow.Author.Needs.{needs}
 use Rattle.circuit.specs.Circuits.{byKind}
 use Rattle.circuit.specs.Records.{kind-neither}
-use Rattle.circuit.proofs.evaluate.make_wire.Statement.{statement}
-use Rattle.circuit.proofs.evaluate.make_wire.Tie as tie
+use Rattle.evaluation.proofs.work.make_wire.Statement.{statement}
+use Rattle.evaluation.proofs.work.make_wire.Tie as tie
 
 xor-into-requires : tie.Need-xor-into-requires
 xor-into-requires c κs = search needs

@@ -1,4 +1,4 @@
--- `evaluate::work_gate` writes what the gate makes over its own wire and leaves the others as found. A gate that is not wrong has its operands before its own
+-- `work::work_gate` writes what the gate makes over its own wire and leaves the others as found. A gate that is not wrong has its operands before its own
 -- wire (`Below`), so that they are ciphertexts (`Operand`), and the wire that begins at j·n is row j of the buffer (`getD-cut`). Leans on what `copy` and
 -- `make_wire` ensure.
 use mathlib.Core.Path.{_≡_, sym, ap, _∙_}
@@ -11,13 +11,13 @@ use borrow.Author.Needs.{needs}
 use Rattle.whole.specs.Lists.{cut, getD-cut, row-ends}
 use Rattle.scheme.specs.Arithmetic.{XOR, NOT, AND}
 use Rattle.regev.specs.Moduli.{params-modulus}
 use Rattle.circuit.specs.Circuits.{byKind}
 use Rattle.circuit.specs.Core.{gate}
 use Rattle.circuit.specs.Records.{Below, gate-below}
 use Rattle.circuit.specs.Wires.{gate-makes}
-use Rattle.circuit.proofs.Stretch.{Operand, operand, part-long, part-written}
-use Rattle.circuit.proofs.evaluate.work_gate.Statement.{statement}
-use Rattle.circuit.proofs.evaluate.work_gate.Tie as tie
+use Rattle.evaluation.proofs.Stretch.{Operand, operand, part-long, part-written}
+use Rattle.evaluation.proofs.work.work_gate.Statement.{statement}
+use Rattle.evaluation.proofs.work.work_gate.Tie as tie
 
 cast-n : tie.Need-cast-n
 cast-n c = search needs

@@ -18,11 +18,11 @@ use Rattle.refusal.specs.Parameters.{InRange, within, refused}
 use Rattle.scheme.specs.Arithmetic.{isResidue}
 use Rattle.scheme.specs.Calls.{differs}
 use Rattle.scheme.specs.Passed.{params-in-range, length-is, entries-inside}
 use Rattle.circuit.specs.declared.Gate.{Gate}
 use Rattle.circuit.specs.Circuits.{badCounts, wrongGates, gateRows, placeOf}
-use Rattle.circuit.specs.Ready.{EvaluateReady}
+use Rattle.evaluation.specs.Ready.{EvaluateReady}
 use Rattle.circuit.specs.Answers.{place-early}
 use Rattle.circuit.specs.Core.{records, uneven, planCoreRows, planCoreAnswer, planCoreBounds, evaluateCoreRows, evaluateCoreAnswer, evaluateCoreBounds}
 
 -- ---- the two stages
 

@@ -1,4 +1,4 @@
--- `evaluate::work` lends `work_gates` the first n entries of two arrays of 1,024, and ensures what that does.
+-- `work::work` lends `work_gates` the first n entries of two arrays of 1,024, and ensures what that does.
 use mathlib.Core.Path.{_≡_, _∙_}
 use Prim.Native.Nat.{ℕ, _-_, _≤_}
 use native.Mathlib.Nat.{sub-zero}
@@ -7,8 +7,8 @@ use lib.IntN.{pos}
 use lib.ListN.{length, take, replicate}
 use lib.Seq.{length-take-le}
 use borrow.Author.Needs.{needs}
-use Rattle.circuit.proofs.evaluate.work.Statement.{statement}
-use Rattle.circuit.proofs.evaluate.work.Tie as tie
+use Rattle.evaluation.proofs.work.work.Statement.{statement}
+use Rattle.evaluation.proofs.work.work.Tie as tie
 
 cast-n : tie.Need-cast-n
 cast-n c = search needs

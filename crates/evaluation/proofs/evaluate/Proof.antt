@@ -1,4 +1,4 @@
--- `evaluate::evaluate` answers and writes as evaluation is defined, in two stages (`Evaluated`): where its own rows refuse, nothing is written; else the
+-- `evaluate` answers and writes as evaluation is defined, in two stages (`Evaluated`): where its own rows refuse, nothing is written; else the
 -- answer and the bounds are planning's; and where planning does not refuse either (`EvaluateReady`) the wires are what `work` makes and the scratch is zeros.
 use mathlib.Core.Path.{_≡_, sym, ap, _∙_}
 use mathlib.Core.Logic.{_≢_}
@@ -8,11 +8,11 @@ use lib.ListN.{length, take, replicate}
 use borrow.Author.Needs.{needs}
 use Rattle.refusal.specs.declared.Refusal.{Refusal}
 use Rattle.refusal.specs.First.{firstOf, doneOr-done, doneOr-refused}
 use Rattle.circuit.specs.Core.{evaluateCoreRows, evaluateCoreAnswer, evaluateCoreWires, evaluateCoreBounds, evaluateCoreScratch}
-use Rattle.circuit.specs.Ready.{EvaluateReady}
-use Rattle.circuit.proofs.Evaluated.{early-number, early-answer, late-answer, late-bounds, answer-number, evaluate-ready}
-use Rattle.circuit.proofs.evaluate.evaluate.Statement.{statement}
-use Rattle.circuit.proofs.evaluate.evaluate.Tie as tie
+use Rattle.evaluation.specs.Ready.{EvaluateReady}
+use Rattle.evaluation.proofs.Evaluated.{early-number, early-answer, late-answer, late-bounds, answer-number, evaluate-ready}
+use Rattle.evaluation.proofs.evaluate.Statement.{statement}
+use Rattle.evaluation.proofs.evaluate.Tie as tie
 
 -- the number of the definition
 abbrev number : tie.Start → ℕ

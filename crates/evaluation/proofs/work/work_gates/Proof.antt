@@ -1,4 +1,4 @@
--- `evaluate::work_gates` makes the buffer the wires of the evaluation. The invariant is `Worked`: after g gates the buffer begins with the wires of the run over
+-- `work::work_gates` makes the buffer the wires of the evaluation. The invariant is `Worked`: after g gates the buffer begins with the wires of the run over
 -- those gates, and the rest is as found; `own` is the wire of gate g. The measure is what is left of the gates. Leans on what `work_gate` ensures.
 use mathlib.Core.Path.{_≡_, refl, sym, ap, _∙_}
 use mathlib.Core.Bool.{false}
@@ -8,14 +8,14 @@ use native.Mathlib.Omega.{arith}
 use lib.ListN.{length, getD}
 use borrow.Author.Needs.{needs}
 use Rattle.whole.specs.Lists.{row-ends}
 use Rattle.circuit.specs.declared.Gate.{Gate}
 use Rattle.circuit.specs.Circuits.{wrongGate}
 use Rattle.circuit.specs.Core.{gate, records}
 use Rattle.circuit.specs.Records.{length-records, getD-records}
 use Rattle.circuit.specs.Wires.{gate-right}
-use Rattle.circuit.proofs.Worked.{Worked, work-start, worked-inside, work-step, work-end}
-use Rattle.circuit.proofs.evaluate.work_gates.Statement.{statement}
-use Rattle.circuit.proofs.evaluate.work_gates.Tie as tie
+use Rattle.evaluation.proofs.Worked.{Worked, work-start, worked-inside, work-step, work-end}
+use Rattle.evaluation.proofs.work.work_gates.Statement.{statement}
+use Rattle.evaluation.proofs.work.work_gates.Tie as tie
 
 abbrev Inv-loop : tie.InvT-loop
 Inv-loop p inputs kinds lefts rights wires₀ key c₀ d₀ scratch₀ own₀ g₀ wires c d scratch own g =

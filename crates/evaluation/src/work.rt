@@ -1,28 +1,21 @@
+// Working the gates of a circuit that nothing refuses: each gate's own stretch of the wires is lent to XOR, AND or NOT.
 ghost use mathlib.Core.Path.{_≡_};
 ghost use mathlib.Core.Bool.{true, false};
 ghost use mathlib.Core.List.{_++_, flatten};
 ghost use Prim.Native.Nat.{_+_, _*_, _≤_, _<_};
 ghost use lib.ListN.{length, take, drop};
 ghost use Rattle.whole.specs.Lists.{all, cut};
-ghost use Rattle.refusal.specs.First.{firstOf};
 ghost use Rattle.refusal.specs.Parameters.{InRange};
 ghost use Rattle.scheme.specs.Arithmetic.{isResidue, XOR, NOT, AND};
 ghost use Rattle.modular.specs.Loans.{Modulus};
 ghost use Rattle.circuit.specs.Circuits.{byKind, wrongGate, gateWire, wiresOf};
-ghost use Rattle.circuit.specs.Ready.{EvaluateReady};
-ghost use Rattle.circuit.specs.Core.{gate, records, evaluateCoreRows, evaluateCoreAnswer, evaluateCoreWires, evaluateCoreBounds, evaluateCoreScratch};
-use crate::checks::are_bad_counts;
-use crate::plan::plan;
+ghost use Rattle.circuit.specs.Core.{gate, records};
+ghost use Rattle.evaluation.specs.Ready.{EvaluateReady};
 use modular::buffer::copy;
-use modular::buffer::zero;
 use refusal::Params;
-use refusal::Refusal;
 use regev::gates::and_into;
 use regev::gates::not_into;
 use regev::gates::xor_into;
-use regev::tests::is_outside;
-use regev::tests::is_outside_big;
-use regev::tests::length_differs;
 
 // What a gate makes of its operands c and d, into the stretch of its own wire; NOT takes c alone.
 fn make_wire(
@@ -110,7 +103,7 @@ fn work_gates(
 }
 
 // Works all gates, with room for the operands of a gate that is made once.
-fn work(
+pub fn work(
     p: Params,
     inputs: usize,
     kinds: &[u32],
@@ -138,95 +131,4 @@ fn work(
         &mut d[0..n],
         scratch,
     );
-}
-
-// The number for evaluation up to 6: 1, 2, 3, 6 or 0. What is left, 8, 9 and 10, is planning's.
-fn evaluate_number(
-    p: Params,
-    inputs: u32,
-    kinds: &[u32],
-    lefts: &[u32],
-    rights: &[u32],
-    wires: &[i64],
-    bounds: &[u32],
-    key: &[i64],
-    scratch: usize,
-) -> u32
-    ensures { λ r. ⌜ r ≡ firstOf (take 4 (evaluateCoreRows p inputs (now (kinds .entry)) (now (lefts .entry)) (now (rights .entry)) (now (wires .entry)) (now (bounds .entry)) (now (key .entry)) scratch)) ⌝ }
-{
-    if !p.in_range() {
-        return 1;
-    }
-    let gates = kinds.len();
-    if are_bad_counts(inputs, gates) {
-        return 2;
-    }
-    let n = p.n as usize;
-    let square = n * n;
-    let count = inputs as usize;
-    let total = count + gates;
-    if length_differs(lefts.len(), gates)
-        | length_differs(rights.len(), gates)
-        | length_differs(wires.len(), total * n)
-        | length_differs(bounds.len(), total)
-        | length_differs(key.len(), n * square)
-        | length_differs(scratch, square)
-    {
-        return 3;
-    }
-    refusal::row(
-        6,
-        is_outside(p.q, &wires[0..count * n]) | is_outside_big(p.q, key),
-        0,
-    )
-}
-
-// Evaluation: the wires of the gates behind those of the inputs, and their bounds; the scratch is zeroed. Refusals 1, 2, 3, 6, 8, 9, 10;
-// the place is the first offending gate for 9 and 10. The budget is settled by planning before any wire is written.
-pub fn evaluate(
-    p: Params,
-    inputs: u32,
-    kinds: &[u32],
-    lefts: &[u32],
-    rights: &[u32],
-    wires: &mut [i64],
-    bounds: &mut [u32],
-    key: &[i64],
-    scratch: &mut [i64],
-) -> Refusal
-    ensures { λ r. ⌜ r ≡ evaluateCoreAnswer p inputs (now (kinds .entry)) (now (lefts .entry)) (now (rights .entry)) (now (wires .entry)) (now (bounds .entry)) (now (key .entry)) (length (now (scratch .entry))) ⌝ }
-    ensures { λ r. ⌜ now (wires .exit) ≡ evaluateCoreWires p inputs (now (kinds .entry)) (now (lefts .entry)) (now (rights .entry)) (now (wires .entry)) (now (bounds .entry)) (now (key .entry)) (now (scratch .entry)) ⌝ }
-    ensures { λ r. ⌜ now (bounds .exit) ≡ evaluateCoreBounds p inputs (now (kinds .entry)) (now (lefts .entry)) (now (rights .entry)) (now (wires .entry)) (now (bounds .entry)) (now (key .entry)) (now (scratch .entry)) ⌝ }
-    ensures { λ r. ⌜ now (scratch .exit) ≡ evaluateCoreScratch p inputs (now (kinds .entry)) (now (lefts .entry)) (now (rights .entry)) (now (wires .entry)) (now (bounds .entry)) (now (key .entry)) (now (scratch .entry)) ⌝ }
-{
-    let number = evaluate_number(
-        p,
-        inputs,
-        kinds,
-        lefts,
-        rights,
-        wires,
-        bounds,
-        key,
-        scratch.len(),
-    );
-    if number != 0 {
-        return Refusal { number, place: 0 };
-    }
-    let planned = plan(p, inputs, kinds, lefts, rights, bounds);
-    if planned.number != 0 {
-        return planned;
-    }
-    work(
-        p,
-        inputs as usize,
-        kinds,
-        lefts,
-        rights,
-        wires,
-        key,
-        scratch,
-    );
-    zero(scratch);
-    planned
 }

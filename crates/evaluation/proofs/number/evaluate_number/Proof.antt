@@ -1,4 +1,4 @@
--- `evaluate::evaluate_number` gives the number of the first of evaluation's rows 1, 2, 3 and 6 that applies, each return by what the tests and `row` ensure.
+-- `number::evaluate_number` gives the number of the first of evaluation's rows 1, 2, 3 and 6 that applies, each return by what the tests and `row` ensure.
 -- Past 2 the counts are small, so that no product wraps, and past 3 the inputs' wires lie within the buffer.
 use mathlib.Core.Path.{_≡_, sym, ap, ap₂, _∙_}
 use mathlib.Core.Bool.{Bool, false, cond, _||_}
@@ -14,11 +14,11 @@ use Rattle.refusal.specs.Parameters.{InRange}
 use Rattle.scheme.specs.Calls.{badParams, differs, outside}
 use Rattle.scheme.specs.Passed.{params-tested, answered-range, length-is}
 use Rattle.regev.specs.Moduli.{params-modulus}
 use Rattle.circuit.specs.Circuits.{badCounts}
 use Rattle.circuit.specs.Core.{uneven, evaluateCoreRows}
 use Rattle.circuit.specs.Answers.{inputs-within, gates-within}
-use Rattle.circuit.proofs.evaluate.evaluate_number.Statement.{statement}
-use Rattle.circuit.proofs.evaluate.evaluate_number.Tie as tie
+use Rattle.evaluation.proofs.number.evaluate_number.Statement.{statement}
+use Rattle.evaluation.proofs.number.evaluate_number.Tie as tie
 
 in-range-requires : tie.Need-in-range-requires
 in-range-requires c κs = search needs

@@ -1,0 +1,63 @@
+// Evaluating a circuit of XOR, AND and NOT gates on encrypted wires, over three slices.
+mod number;
+mod work;
+
+ghost use mathlib.Core.Path.{_≡_};
+ghost use lib.ListN.{length};
+ghost use Rattle.circuit.specs.Core.{evaluateCoreAnswer, evaluateCoreWires, evaluateCoreBounds, evaluateCoreScratch};
+use circuit::plan::plan;
+use modular::buffer::zero;
+use number::evaluate_number;
+use refusal::Params;
+use refusal::Refusal;
+use work::work;
+
+// Evaluation: the wires of the gates behind those of the inputs, and their bounds; the scratch is zeroed. Refusals 1, 2, 3, 6, 8, 9, 10;
+// the place is the first offending gate for 9 and 10. The budget is settled by planning before any wire is written.
+pub fn evaluate(
+    p: Params,
+    inputs: u32,
+    kinds: &[u32],
+    lefts: &[u32],
+    rights: &[u32],
+    wires: &mut [i64],
+    bounds: &mut [u32],
+    key: &[i64],
+    scratch: &mut [i64],
+) -> Refusal
+    ensures { λ r. ⌜ r ≡ evaluateCoreAnswer p inputs (now (kinds .entry)) (now (lefts .entry)) (now (rights .entry)) (now (wires .entry)) (now (bounds .entry)) (now (key .entry)) (length (now (scratch .entry))) ⌝ }
+    ensures { λ r. ⌜ now (wires .exit) ≡ evaluateCoreWires p inputs (now (kinds .entry)) (now (lefts .entry)) (now (rights .entry)) (now (wires .entry)) (now (bounds .entry)) (now (key .entry)) (now (scratch .entry)) ⌝ }
+    ensures { λ r. ⌜ now (bounds .exit) ≡ evaluateCoreBounds p inputs (now (kinds .entry)) (now (lefts .entry)) (now (rights .entry)) (now (wires .entry)) (now (bounds .entry)) (now (key .entry)) (now (scratch .entry)) ⌝ }
+    ensures { λ r. ⌜ now (scratch .exit) ≡ evaluateCoreScratch p inputs (now (kinds .entry)) (now (lefts .entry)) (now (rights .entry)) (now (wires .entry)) (now (bounds .entry)) (now (key .entry)) (now (scratch .entry)) ⌝ }
+{
+    let number = evaluate_number(
+        p,
+        inputs,
+        kinds,
+        lefts,
+        rights,
+        wires,
+        bounds,
+        key,
+        scratch.len(),
+    );
+    if number != 0 {
+        return Refusal { number, place: 0 };
+    }
+    let planned = plan(p, inputs, kinds, lefts, rights, bounds);
+    if planned.number != 0 {
+        return planned;
+    }
+    work(
+        p,
+        inputs as usize,
+        kinds,
+        lefts,
+        rights,
+        wires,
+        key,
+        scratch,
+    );
+    zero(scratch);
+    planned
+}

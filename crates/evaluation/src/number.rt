@@ -1,0 +1,50 @@
+ghost use mathlib.Core.Path.{_≡_};
+ghost use lib.ListN.{take};
+ghost use Rattle.refusal.specs.First.{firstOf};
+ghost use Rattle.circuit.specs.Core.{evaluateCoreRows};
+use circuit::checks::are_bad_counts;
+use refusal::Params;
+use regev::tests::is_outside;
+use regev::tests::is_outside_big;
+use regev::tests::length_differs;
+
+// The number for evaluation up to 6: 1, 2, 3, 6 or 0. What is left, 8, 9 and 10, is planning's.
+pub fn evaluate_number(
+    p: Params,
+    inputs: u32,
+    kinds: &[u32],
+    lefts: &[u32],
+    rights: &[u32],
+    wires: &[i64],
+    bounds: &[u32],
+    key: &[i64],
+    scratch: usize,
+) -> u32
+    ensures { λ r. ⌜ r ≡ firstOf (take 4 (evaluateCoreRows p inputs (now (kinds .entry)) (now (lefts .entry)) (now (rights .entry)) (now (wires .entry)) (now (bounds .entry)) (now (key .entry)) scratch)) ⌝ }
+{
+    if !p.in_range() {
+        return 1;
+    }
+    let gates = kinds.len();
+    if are_bad_counts(inputs, gates) {
+        return 2;
+    }
+    let n = p.n as usize;
+    let square = n * n;
+    let count = inputs as usize;
+    let total = count + gates;
+    if length_differs(lefts.len(), gates)
+        | length_differs(rights.len(), gates)
+        | length_differs(wires.len(), total * n)
+        | length_differs(bounds.len(), total)
+        | length_differs(key.len(), n * square)
+        | length_differs(scratch, square)
+    {
+        return 3;
+    }
+    refusal::row(
+        6,
+        is_outside(p.q, &wires[0..count * n]) | is_outside_big(p.q, key),
+        0,
+    )
+}
