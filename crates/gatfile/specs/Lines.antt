@@ -6,7 +6,8 @@ use mathlib.Core.List.{List, [], _∷_, _++_, append-assoc, flatMap}
 use Prim.Native.Nat.{ℕ, zero, suc, _+_, _*_, _-_, _/_, _^_, _≤_, _<_}
 use native.Mathlib.Omega.{arith}
 use lib.Dec.{ltb}
-use lib.ListN.{length, getD, drop, length-append}
+use lib.ListN.{length, getD, take, drop, length-append}
+use lib.Seq.{take-append-seam}
 use borrow.Author.Tests.{lt-ltb, le-ltb, lt-leb, le-leb}
 use Rattle.whole.specs.Lists.{tabulate, length-tabulate, getD-tabulate}
 use Rattle.refusal.specs.declared.Params.{Params}
@@ -123,6 +124,13 @@ module _ (file out : List ℕ) where
       let long : to ≡ length (text file) = omega (arith, w .stop) in
       let t = le-leb (length (text file)) (length out) (omega (arith, w .room)) in
       (rw t long, rw t (w .whole ∙ ap (λ (n : ℕ). text file ++ drop n out) long))
+
+  -- where the buffer has room for the text, what is answered is at its front
+  pub text-front : length (text file) ≤ length out → (textAnswer file out ≤ length (textBuffer file out)) × (take (textAnswer file out) (textBuffer file out) ≡ text file)
+  unfolding textAnswer textBuffer
+  text-front h =
+      rw (le-leb (length (text file)) (length out) h)
+      (omega (arith, length-append (text file) (drop (length (text file)) out)), take-append-seam (text file) (drop (length (text file)) out))
 
 -- ---- how long they are
 

@@ -59,10 +59,12 @@ fn put_text(file: &[u8], table: &mut [u32], out: &mut [u8]) -> usize
     put_bounds(file, &table[0..wires], out)
 }
 
-// Writes the text at the front of the buffer and answers its length; where the buffer is shorter than the text, answers 0 and writes nothing.
+// Writes the text at the front of the buffer and answers its length; where the buffer is shorter than the text, answers 0 and writes nothing. No
+// text is longer than 102,432 bytes.
 pub fn text(file: &[u8], out: &mut [u8]) -> usize
     ensures { λ r. ⌜ r ≡ textAnswer (now (file .entry)) (now (out .entry)) ⌝ }
     ensures { λ r. ⌜ now (out .exit) ≡ textBuffer (now (file .entry)) (now (out .entry)) ⌝ }
+    ensures { λ r. ⌜ length (fileText (now (file .entry))) ≤ 102432 ⌝ }
 {
     let mut table = [0u32; WIRES];
     let mut room = [0u8; ROOM];

@@ -1,7 +1,9 @@
 -- `text::text` copies the text to the lent buffer where it has room for it.
-use mathlib.Core.Path.{_≡_, sym, ap, _∙_}
+use Prim.Native.Nat.{_≤_}
 use native.Mathlib.Omega.{arith}
 use native.Mathlib.Nat.{sub-zero}
+use lib.ListN.{length}
+use Rattle.gatfile.specs.Text.{text}
 use Rattle.gatfile.specs.Lines.{text-short, text-fits}
 use Rattle.gatfile.specs.Writing.{written-as, written-front}
 use borrow.Author.Needs.{needs}
@@ -17,8 +19,16 @@ slice-aggregate-put-text-2 c = search needs
 put-text-requires : tie.Need-put-text-requires
 put-text-requires c κs = search needs
 
+-- the text has room in the array
+few : (c : tie.After-put-text) → length (text (c .before .before .before .before .before .args .file .now)) ≤ 102432
+few c = omega (arith, c .put-text .ensures .stop, c .put-text .ensures .room)
+
 returns : tie.Need-returns
-returns c = text-short _ _ (omega (arith, c .if1 .taken, c .before .before .before .put-text .ensures .stop))
+returns c =
+    let w = c .before .before .before .put-text .ensures in
+    let a = c .before .before .before .before .before .before .before .before .args in
+    let t = text-short (a .file .now) (a .out .now) (omega (arith, c .if1 .taken, w .stop)) in
+    (t .0, (t .1, few (c .before .before .before)))
 
 sub-put : tie.Need-sub-put
 sub-put c = search needs
@@ -36,7 +46,11 @@ same-length : tie.Need-same-length
 same-length c = search needs
 
 returns-2 : tie.Need-returns-2
-returns-2 c = text-fits _ _ (written-as (rw sub-zero (written-front (c .before .before .before .before .before .before .before .before .before .put-text .ensures))) (c .before .before .put .ensures))
+returns-2 c =
+    let p = c .before .before .before .before .before .before .before .before .before in
+    let a = p .before .before .before .before .before .args in
+    let t = text-fits (a .file .now) (a .out .now) (written-as (rw sub-zero (written-front (p .put-text .ensures))) (c .before .before .put .ensures)) in
+    (t .0, (t .1, few p))
 
 pub text-spec : {M : Type 1} → statement M
 text-spec =

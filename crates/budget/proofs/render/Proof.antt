@@ -1,0 +1,27 @@
+-- `render` puts the text at the front, for which there is room (`text-front`).
+use mathlib.Core.Path.{_≡_, sym, ap, _∙_}
+use Prim.Native.Nat.{_≤_}
+use native.Mathlib.Omega.{arith}
+use lib.ListN.{length, take}
+use lib.Seq.{length-take-le}
+use Rattle.gatfile.specs.Lines.{text-front}
+use borrow.Author.Needs.{needs}
+use Rattle.budget.proofs.render.Statement.{statement}
+use Rattle.budget.proofs.render.Tie as tie
+
+text-requires : tie.Need-text-requires
+text-requires c κs = search needs
+
+same-length : tie.Need-same-length
+same-length c = search needs
+
+returns : tie.Need-returns
+returns c =
+    let s = c .before .before .before .before .before .before in
+    let t = c .before .before .text .ensures in
+    let f = text-front (s .args .file .now) (s .args .out .now) (omega (arith, t .1 .1, s .pre)) in
+    let within : c .before .before .text .result ≤ length (c .before .before .text .last .1 .0) = rw (t .0, t .1 .0) (f .0) in
+    (rw (t .0, t .1 .0) (f .1), (within, sym (length-take-le _ _ within)))
+
+pub render-spec : {M : Type 1} → statement M
+render-spec = tie.close (tie.spec text-requires same-length returns)
