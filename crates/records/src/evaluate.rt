@@ -11,7 +11,7 @@ use refusal::Params;
 use refusal::Refusal;
 
 // Evaluation of the gates that are listed, out of as many as there are.
-pub fn evaluate_first(
+fn evaluate_first(
     p: Params,
     inputs: u32,
     first: [Gate; 4097],

@@ -4,7 +4,7 @@ ghost use Rattle.records.specs.First.{noGates, listedCount, firstGates};
 use circuit::Gate;
 
 // Zeros alone.
-pub fn no_gates() -> [Gate; 4097]
+fn no_gates() -> [Gate; 4097]
     ensures { λ r. ⌜ r ≡ noGates ⌝ }
 {
     [Gate {
@@ -14,7 +14,7 @@ pub fn no_gates() -> [Gate; 4097]
     }; 4097]
 }
 
-// How many of the gates are listed: one more than a circuit may have, so that one that is too long is still seen to be.
+// How many of the gates are listed: at most one more than a circuit may have, so that a run that is too long is still seen to be.
 pub fn listed_count(gates: usize) -> usize
     ensures { λ r. ⌜ r ≡ listedCount gates ⌝ }
 {

@@ -11,7 +11,7 @@ use refusal::Params;
 use refusal::Refusal;
 
 // Planning of the gates that are listed, out of as many as there are.
-pub fn plan_first(
+fn plan_first(
     p: Params,
     inputs: u32,
     first: [Gate; 4097],

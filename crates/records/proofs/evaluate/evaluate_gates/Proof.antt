@@ -91,6 +91,9 @@ module _ {M : Type 1} (𝓤 : URA M) (H : Heap 𝓤) (A : Atoms 𝓤) (W : Given
   abbrev n : ℕ
   n = length (x .now)
 
+  abbrev listed : List Gate
+  listed = take (listedCount n) (firstGates (x .now))
+
   -- the machine values of the buffers
   abbrev vw : Val
   vw = sliceVal (wires .ptr) (length (wires .now))
@@ -124,7 +127,8 @@ module _ {M : Type 1} (𝓤 : URA M) (H : Heap 𝓤) (A : Atoms 𝓤) (W : Given
 
   -- what the buffers own
   abbrev Lent : Fml
-  Lent = owns (MutSlice (named 1) (κs .0) i64 ∷ MutSlice (named 2) (κs .1 .0) u32 ∷ ShrSlice (named 3) (κs .1 .1 .0) i64 ∷ MutSlice (named 4) (κs .1 .1 .1 .0) i64 ∷ []) (wires, (bounds, (key, (scratch, tt)))) (vw ∷ [], (vb ∷ [], (vk ∷ [], (vs ∷ [], tt))))
+  Lent = owns (MutSlice (named 1) (κs .0) i64 ∷ MutSlice (named 2) (κs .1 .0) u32 ∷ ShrSlice (named 3) (κs .1 .1 .0) i64 ∷ MutSlice (named 4) (κs .1 .1 .1 .0) i64 ∷ [])
+      (wires, (bounds, (key, (scratch, tt)))) (vw ∷ [], (vb ∷ [], (vk ∷ [], (vs ∷ [], tt))))
 
   -- the tokens of the buffers
   abbrev Alive : Item 𝓤
@@ -165,9 +169,11 @@ module _ {M : Type 1} (𝓤 : URA M) (H : Heap 𝓤) (A : Atoms 𝓤) (W : Given
 
   exits : (r : Refusal) (u : Val) (ws : List ℤ) (bs : List ℕ) (ss : List ℤ) → Answers (x .now) r → Wires (x .now) ws → Bounds (x .now) bs → Scratch (x .now) ss
       → length ws ≡ length (wires .now) → length bs ≡ length (bounds .now) → length ss ≡ length (scratch .now)
-      → ent 𝓤 (⋆ 𝓤 H A (‵ (R.the-row .own r (u ∷ [])) ∷ Alive ∷ ‵ (finally i64 (scratch .name) ss) ∷ ‵ (finally u32 (bounds .name) bs) ∷ ‵ (finally i64 (wires .name) ws) ∷ (‵ (flft κ q) ⊛ ‵ ftrue) ∷ ‵ (Gates κ x) ∷ ‵ Key ∷ [])) (Post u)
+      → ent 𝓤 (⋆ 𝓤 H A (‵ (R.the-row .own r (u ∷ [])) ∷ Alive ∷ ‵ (finally i64 (scratch .name) ss) ∷ ‵ (finally u32 (bounds .name) bs) ∷ ‵ (finally i64 (wires .name) ws) ∷ (‵ (flft κ q)
+      ⊛ ‵ ftrue) ∷ ‵ (Gates κ x) ∷ ‵ Key ∷ [])) (Post u)
   exits r u ws bs ss e₁ e₂ e₃ e₄ lw lb ls =
-      qed W (‵ (R.the-row .own r (u ∷ [])) ∷ Alive ∷ ‵ (finally i64 (scratch .name) ss) ∷ ‵ (finally u32 (bounds .name) bs) ∷ ‵ (finally i64 (wires .name) ws) ∷ (‵ (flft κ q) ⊛ ‵ ftrue) ∷ ‵ (Gates κ x) ∷ ‵ Key ∷ []) ∵
+      qed W (‵ (R.the-row .own r (u ∷ [])) ∷ Alive ∷ ‵ (finally i64 (scratch .name) ss) ∷ ‵ (finally u32 (bounds .name) bs) ∷ ‵ (finally i64 (wires .name) ws) ∷ (‵ (flft κ q) ⊛ ‵ ftrue)
+      ∷ ‵ (Gates κ x) ∷ ‵ Key ∷ []) ∵
       suffices ! _ (ends-at 𝓤 H A eval.ended stayed (eval.clauses 𝓤 H A mem run) W bound u r (tt, (tt, (tt, (ws, (bs, (tt, (ss, tt))))))) (tt, (tt, (tt, (lw, (lb, (tt, (ls, tt)))))))) $
       says4 ! e₁ e₂ e₃ e₄ $
       move ! (5 ∷ []) $ split ! $ move ! (1 ∷ []) $ drop ! $ move ! (0 ∷ 2 ∷ []) $ join ! $ frame ! $
@@ -180,9 +186,11 @@ module _ {M : Type 1} (𝓤 : URA M) (H : Heap 𝓤) (A : Atoms 𝓤) (W : Given
     walk : Room G.the-row n → Room i64 (length (wires .now)) → Room u32 (length (bounds .now)) → Room i64 (length (key .now)) → Room i64 (length (scratch .now))
         → ent 𝓤 (onEntry 𝓤 H A eval.signature (κ, κs) (q, qs) a at) (WpFn 𝓤 H (𝓣 .C) (𝓣 .Λ) code.function (vp ∷ vint w32 inputs ∷ slice x ∷ vw ∷ vb ∷ vk ∷ vs ∷ []) Post)
     walk g gw gb gk gs =
-        qed W ((‵ (flft κ q) ⊛ Alive) ∷ ‵ (owns (P.the-row ∷ u32 ∷ ShrSlice (named 0) κ G.the-row ∷ MutSlice (named 1) (κs .0) i64 ∷ MutSlice (named 2) (κs .1 .0) u32 ∷ ShrSlice (named 3) (κs .1 .1 .0) i64 ∷ MutSlice (named 4) (κs .1 .1 .1 .0) i64 ∷ []) a at) ∷ []) ∵
+        qed W ((‵ (flft κ q) ⊛ Alive) ∷ ‵ (owns (P.the-row ∷ u32 ∷ ShrSlice (named 0) κ G.the-row ∷ MutSlice (named 1) (κs .0) i64 ∷ MutSlice (named 2) (κs .1 .0) u32
+        ∷ ShrSlice (named 3) (κs .1 .1 .0) i64 ∷ MutSlice (named 4) (κs .1 .1 .1 .0) i64 ∷ []) a at) ∷ []) ∵
         enter ! (𝓣 .C) (𝓣 .Λ) code.function (vp ∷ vint w32 inputs ∷ slice x ∷ vw ∷ vb ∷ vk ∷ vs ∷ []) _ $
-        alloc1 ! (λ l₀. alloc1 ! (λ l₁. alloc1 ! (λ l₂. alloc1 ! (λ l₃. alloc1 ! (λ l₄. alloc1 ! (λ l₅. alloc1 ! (λ l₆. alloc1 ! (λ l₇. alloc1 ! (λ l₈. alloc1 ! (λ l₉. alloc1 ! (λ l₁₀. alloc1 ! (λ l₁₁. alloc1 ! (λ l₁₂. alloc1 ! (λ l₁₃. alloc1 ! (λ l₁₄. alloc1 ! (λ l₁₅. alloc0 ! $ params1 ! $
+        alloc1 ! (λ l₀. alloc1 ! (λ l₁. alloc1 ! (λ l₂. alloc1 ! (λ l₃. alloc1 ! (λ l₄. alloc1 ! (λ l₅. alloc1 ! (λ l₆. alloc1 ! (λ l₇. alloc1 ! (λ l₈. alloc1 ! (λ l₉. alloc1 ! (λ l₁₀.
+        alloc1 ! (λ l₁₁. alloc1 ! (λ l₁₂. alloc1 ! (λ l₁₃. alloc1 ! (λ l₁₄. alloc1 ! (λ l₁₅. alloc0 ! $ params1 ! $
         pass1 ! (init ! 28 refl (LL.lawful P.the-type P′.the-laws 𝓤 H A W .typed p _ p-is .0)) $ pass1 ! (init ! 26 refl (tt, record { fits = inputs-fit })) $
         pass1 ! (init ! 24 refl (tt, (tt, (record { fits = g .0 }, tt)))) $ pass1 ! (init ! 22 refl (tt, (tt, (record { fits = gw .0 }, tt)))) $
         pass1 ! (init ! 20 refl (tt, (tt, (record { fits = gb .0 }, tt)))) $
@@ -192,29 +200,35 @@ module _ {M : Type 1} (𝓤 : URA M) (H : Heap 𝓤) (A : Atoms 𝓤) (W : Given
         use1 W (‵ (Gates κ x) ⊛ ‵ (Gates κ x)) (shr-slice-copy 𝓤 H A W (named 0) κ G.the-row .twice x (slice x ∷ [])) $ split ! $ move ! (36 ∷ []) $ split ! $
         -- [the token of the gates; those of the buffers; what the gates own, twice; what the buffers own; what the key owns; _15; …; room for _0; …]
         move ! (0 ∷ 2 ∷ []) $
-        calls-first 𝓤 H A mem run W κ q x ! (fmOf 𝓤 H (W .laws) 𝓣) known-first (and-then ! (load ! (from ! (stop !)) (look ! 29 refl)) (no-more !)) (λ u is. land ! (from ! (stop !)) (init ! 20 refl (array-typed 𝓤 H A W (firstGates (x .now)) u is)) $
+        calls-first 𝓤 H A mem run W κ q x ! (fmOf 𝓤 H (W .laws) 𝓣) known-first (and-then ! (load ! (from ! (stop !)) (look ! 29 refl)) (no-more !)) (λ u is. land ! (from ! (stop !))
+        (init ! 20 refl (array-typed 𝓤 H A W (firstGates (x .now)) u is)) $
         -- [the array; the tokens; what the gates own; what the buffers own; what the key owns; _15; …; room for _0; …]
         assigns ! (of-opd ! (load ! (from ! (fld ! refl (stop !))) (look-in ! 30 (sub ! 1 refl (whole !))))) (from ! (stop !)) (init ! 18 refl (tt, record { fits = g .0 })) $
         assigns ! (addr ! (from ! (fld ! refl (hop ! (look-in ! 28 (sub ! 0 refl (whole !))) (stop !))))) (from ! (stop !)) (init ! 16 refl (tt, tt)) $
-        assigns ! (agg ! (and-then ! (load ! (from ! (stop !)) (look ! 16 refl)) (and-then ! (load ! (from ! (fld ! refl (stop !))) (look-in ! 28 (sub ! 1 refl (whole !)))) (no-more !)))) (from ! (stop !)) (init ! 14 refl (tt, (tt, (record { fits = gw .0 }, tt)))) $
+        assigns ! (agg ! (and-then ! (load ! (from ! (stop !)) (look ! 16 refl)) (and-then ! (load ! (from ! (fld ! refl (stop !))) (look-in ! 28 (sub ! 1 refl (whole !)))) (no-more !))))
+        (from ! (stop !)) (init ! 14 refl (tt, (tt, (record { fits = gw .0 }, tt)))) $
         assigns ! (addr ! (from ! (fld ! refl (hop ! (look-in ! 26 (sub ! 0 refl (whole !))) (stop !))))) (from ! (stop !)) (init ! 12 refl (tt, tt)) $
-        assigns ! (agg ! (and-then ! (load ! (from ! (stop !)) (look ! 12 refl)) (and-then ! (load ! (from ! (fld ! refl (stop !))) (look-in ! 26 (sub ! 1 refl (whole !)))) (no-more !)))) (from ! (stop !)) (init ! 10 refl (tt, (tt, (record { fits = gb .0 }, tt)))) $
+        assigns ! (agg ! (and-then ! (load ! (from ! (stop !)) (look ! 12 refl)) (and-then ! (load ! (from ! (fld ! refl (stop !))) (look-in ! 26 (sub ! 1 refl (whole !)))) (no-more !))))
+        (from ! (stop !)) (init ! 10 refl (tt, (tt, (record { fits = gb .0 }, tt)))) $
         assigns ! (addr ! (from ! (fld ! refl (hop ! (look-in ! 22 (sub ! 0 refl (whole !))) (stop !))))) (from ! (stop !)) (init ! 8 refl (tt, tt)) $
-        assigns ! (agg ! (and-then ! (load ! (from ! (stop !)) (look ! 8 refl)) (and-then ! (load ! (from ! (fld ! refl (stop !))) (look-in ! 22 (sub ! 1 refl (whole !)))) (no-more !)))) (from ! (stop !)) (init ! 6 refl (tt, (tt, (record { fits = gs .0 }, tt)))) $
+        assigns ! (agg ! (and-then ! (load ! (from ! (stop !)) (look ! 8 refl)) (and-then ! (load ! (from ! (fld ! refl (stop !))) (look-in ! 22 (sub ! 1 refl (whole !)))) (no-more !))))
+        (from ! (stop !)) (init ! 6 refl (tt, (tt, (record { fits = gs .0 }, tt)))) $
         move ! (2 ∷ 0 ∷ 4 ∷ []) $ use3 W (raw (Work 𝓤 H A mem run .pre (to-work u))) (goes-work u (g .0)) $
         calls-at ! (fmOf 𝓤 H (W .laws) 𝓣) (Work 𝓤 H A mem run) known-work (to-work u)
-        (and-then ! (load ! (from ! (stop !)) (look ! 32 refl)) (and-then ! (load ! (from ! (stop !)) (look ! 30 refl)) (and-then ! (load ! (from ! (stop !)) (look ! 18 refl)) (and-then ! (load ! (from ! (stop !)) (look ! 16 refl))
-        (and-then ! (load ! (from ! (stop !)) (look ! 12 refl)) (and-then ! (load ! (from ! (stop !)) (look ! 8 refl)) (and-then ! (load ! (from ! (stop !)) (look ! 22 refl)) (and-then ! (load ! (from ! (stop !)) (look ! 4 refl)) (no-more !))))))))) (λ u′.
+        (and-then ! (load ! (from ! (stop !)) (look ! 32 refl)) (and-then ! (load ! (from ! (stop !)) (look ! 30 refl)) (and-then ! (load ! (from ! (stop !)) (look ! 18 refl))
+        (and-then ! (load ! (from ! (stop !)) (look ! 16 refl))
+        (and-then ! (load ! (from ! (stop !)) (look ! 12 refl)) (and-then ! (load ! (from ! (stop !)) (look ! 8 refl)) (and-then ! (load ! (from ! (stop !)) (look ! 22 refl))
+        (and-then ! (load ! (from ! (stop !)) (look ! 4 refl)) (no-more !))))))))) (λ u′.
         use1 W (later (some (λ (t : Refusal). (Alive ⊛ ‵ (R.the-row .own t (u′ ∷ []))) ⊛ raw (ensured 𝓤 H A work.ended (work.clauses 𝓤 H A mem run) κs passed tt t)))) (id⊢ 𝓤 _) $
         await ! tt $ pick ! (λ t.
         split ! $ move ! (1 ∷ []) $
         use1 W (some (λ (zs : Lasts work.ended κs passed). ‵ (lasts work.ended κs passed zs)
-        ⊛ raw (fact 𝓤 (Answers (take (listedCount n) (firstGates (x .now))) t)) ⊛ raw (fact 𝓤 (Wires (take (listedCount n) (firstGates (x .now))) (zs .1 .1 .1 .1 .0)))
-        ⊛ raw (fact 𝓤 (Bounds (take (listedCount n) (firstGates (x .now))) (zs .1 .1 .1 .1 .1 .0))) ⊛ raw (fact 𝓤 (Scratch (take (listedCount n) (firstGates (x .now))) (zs .1 .1 .1 .1 .1 .1 .1 .0))))) (id⊢ 𝓤 _) $ pick ! (λ zs.
-        split ! $ move ! (1 ∷ []) $ split ! $ heard ! (Answers (take (listedCount n) (firstGates (x .now))) t) (λ e₁.
-        split ! $ heard ! (Wires (take (listedCount n) (firstGates (x .now))) (zs .1 .1 .1 .1 .0)) (λ e₂.
-        split ! $ heard ! (Bounds (take (listedCount n) (firstGates (x .now))) (zs .1 .1 .1 .1 .1 .0)) (λ e₃.
-        heard ! (Scratch (take (listedCount n) (firstGates (x .now))) (zs .1 .1 .1 .1 .1 .1 .1 .0)) (λ e₄.
+        ⊛ raw (fact 𝓤 (Answers listed t)) ⊛ raw (fact 𝓤 (Wires listed (zs .1 .1 .1 .1 .0)))
+        ⊛ raw (fact 𝓤 (Bounds listed (zs .1 .1 .1 .1 .1 .0))) ⊛ raw (fact 𝓤 (Scratch listed (zs .1 .1 .1 .1 .1 .1 .1 .0))))) (id⊢ 𝓤 _) $ pick ! (λ zs.
+        split ! $ move ! (1 ∷ []) $ split ! $ heard ! (Answers listed t) (λ e₁.
+        split ! $ heard ! (Wires listed (zs .1 .1 .1 .1 .0)) (λ e₂.
+        split ! $ heard ! (Bounds listed (zs .1 .1 .1 .1 .1 .0)) (λ e₃.
+        heard ! (Scratch listed (zs .1 .1 .1 .1 .1 .1 .1 .0)) (λ e₄.
         fsplit ! $ drop ! $ fsplit ! $ drop ! $ fsplit ! $ drop ! $ fsplit ! $ drop ! $ fsplit ! $ fsplit ! $ move ! (1 ∷ []) $ feqL ! (λ lw. move ! (1 ∷ []) $ fsplit ! $ fsplit ! $
         move ! (1 ∷ []) $ feqL ! (λ lb.
         move ! (1 ∷ []) $ fsplit ! $ drop ! $ fsplit ! $ fsplit ! $ move ! (1 ∷ []) $ feqL ! (λ ls. move ! (1 ∷ []) $ drop ! $ move ! (3 ∷ []) $ split ! $ move ! (1 ∷ []) $
@@ -223,10 +237,13 @@ module _ {M : Type 1} (𝓤 : URA M) (H : Heap 𝓤) (A : Atoms 𝓤) (W : Given
         land ! (from ! (stop !)) (init ! 38 refl (LL.lawful R.the-type R′.the-laws 𝓤 H A W .typed t _ is′ .0)) $
         returns ! (look ! 38 refl) $ forget ! 8 refl $ forget ! 10 refl $ forget ! 12 refl $ forget ! 14 refl $ forget ! 16 refl $ forget ! 18 refl $ forget ! 20 refl $ forget ! 22 refl $
         forget ! 24 refl $ forget ! 26 refl $ forget ! 28 refl $ forget ! 30 refl $ forget ! 32 refl $ forget ! 34 refl $ forget ! 36 refl $ forget ! 38 refl $
-        keep ! (38 ∷ 39 ∷ 36 ∷ 37 ∷ 34 ∷ 35 ∷ 32 ∷ 33 ∷ 30 ∷ 31 ∷ 28 ∷ 29 ∷ 26 ∷ 27 ∷ 24 ∷ 25 ∷ 22 ∷ 23 ∷ 20 ∷ 21 ∷ 18 ∷ 19 ∷ 16 ∷ 17 ∷ 14 ∷ 15 ∷ 12 ∷ 13 ∷ 10 ∷ 11 ∷ 8 ∷ 9 ∷ 0 ∷ 1 ∷ 2 ∷ 3 ∷ 4 ∷ 5 ∷ 6 ∷ 7 ∷ []) $
+        keep ! (38 ∷ 39 ∷ 36 ∷ 37 ∷ 34 ∷ 35 ∷ 32 ∷ 33 ∷ 30 ∷ 31 ∷ 28 ∷ 29 ∷ 26 ∷ 27 ∷ 24 ∷ 25 ∷ 22 ∷ 23 ∷ 20 ∷ 21 ∷ 18 ∷ 19 ∷ 16 ∷ 17 ∷ 14 ∷ 15 ∷ 12 ∷ 13 ∷ 10 ∷ 11 ∷ 8 ∷ 9 ∷ 0 ∷ 1 ∷ 2 ∷ 3
+        ∷ 4 ∷ 5 ∷ 6 ∷ 7 ∷ []) $
         free1 ! $ free1 ! $ free1 ! $ free1 ! $ free1 ! $ free1 ! $ free1 ! $ free1 ! $ free1 ! $ free1 ! $ free1 ! $ free1 ! $ free1 ! $ free1 ! $ free1 ! $ free1 ! $ free0 ! $
-        by ! (exits t u′ (zs .1 .1 .1 .1 .0) (zs .1 .1 .1 .1 .1 .0) (zs .1 .1 .1 .1 .1 .1 .1 .0) (e₁ ∙ evaluate-answer-enough p inputs (x .now) (bounds .now) (wires .now) (key .now) (length (scratch .now)))
-        (e₂ ∙ evaluate-wires-enough p inputs (x .now) (bounds .now) (wires .now) (key .now) (scratch .now)) (e₃ ∙ evaluate-bounds-enough p inputs (x .now) (bounds .now) (wires .now) (key .now) (scratch .now))
+        by ! (exits t u′ (zs .1 .1 .1 .1 .0) (zs .1 .1 .1 .1 .1 .0) (zs .1 .1 .1 .1 .1 .1 .1 .0) (e₁ ∙ evaluate-answer-enough p inputs (x .now) (bounds .now)
+        (wires .now) (key .now) (length (scratch .now)))
+        (e₂ ∙ evaluate-wires-enough p inputs (x .now) (bounds .now) (wires .now) (key .now) (scratch .now)) (e₃ ∙ evaluate-bounds-enough p inputs (x .now) (bounds .now)
+        (wires .now) (key .now) (scratch .now))
         (e₄ ∙ evaluate-scratch-enough p inputs (x .now) (bounds .now) (wires .now) (key .now) (scratch .now)) lw lb ls)))))))))))))))))))))))))))))
 
 module _ {M : Type 1} (𝓤 : URA M) (H : Heap 𝓤) (A : Atoms 𝓤) (W : Given 𝓤 H A) (mem : Memory → SProp 𝓤) (run : Routine → Fun 𝓤) (𝓣 : Tables 𝓤 H)
@@ -234,8 +251,21 @@ module _ {M : Type 1} (𝓤 : URA M) (H : Heap 𝓤) (A : Atoms 𝓤) (W : Given
   evaluate-walks : Walks 𝓤 H A eval.ended stayed (WpFn 𝓤 H (𝓣 .C) (𝓣 .Λ) code.function) (eval.clauses 𝓤 H A mem run)
   evaluate-walks = walked 𝓤 H A eval.ended stayed (eval.clauses 𝓤 H A mem run) (WpFn 𝓤 H (𝓣 .C) (𝓣 .Λ) code.function)
       (λ κs. (LL.vals P.the-type P′.the-laws, (uint-vals w32, (slice-vals, (slice-vals, (slice-vals, (slice-vals, (slice-vals, tt))))))))
-      (λ κs. (LL.tells P.the-type P′.the-laws, (uint-tells w32, (shr-slice-tells (named 0) (κs .0) G.the-row, (mut-slice-tells (named 1) (κs .1 .0) i64, (mut-slice-tells (named 2) (κs .1 .1 .0) u32, (shr-slice-tells (named 3) (κs .1 .1 .1 .0) i64, (mut-slice-tells (named 4) (κs .1 .1 .1 .1 .0) i64, tt))))))))
-      (λ κs qs bounds a _ are. via 𝓤 _ (fst∗ 𝓤 _ (emp 𝓤)) (walk 𝓤 H A W mem run (κs .0) (κs .1) (qs .0) (qs .1) (a .0) (a .1 .0) (a .1 .1 .0) (a .1 .1 .1 .0) (a .1 .1 .1 .1 .0) (a .1 .1 .1 .1 .1 .0) (a .1 .1 .1 .1 .1 .1 .0) (are .0) (are .1 .0 .1) 𝓣 known-first known-work
+      (λ κs. (
+        LL.tells P.the-type P′.the-laws,
+        (
+          uint-tells w32,
+          (
+            shr-slice-tells (named 0) (κs .0) G.the-row,
+            (
+              mut-slice-tells (named 1) (κs .1 .0) i64,
+              (mut-slice-tells (named 2) (κs .1 .1 .0) u32, (shr-slice-tells (named 3) (κs .1 .1 .1 .0) i64, (mut-slice-tells (named 4) (κs .1 .1 .1 .1 .0) i64, tt))),
+            ),
+          ),
+        ),
+      ))
+      (λ κs qs bounds a _ are. via 𝓤 _ (fst∗ 𝓤 _ (emp 𝓤)) (walk 𝓤 H A W mem run (κs .0) (κs .1) (qs .0) (qs .1) (a .0) (a .1 .0) (a .1 .1 .0) (a .1 .1 .1 .0) (a .1 .1 .1 .1 .0)
+      (a .1 .1 .1 .1 .1 .0) (a .1 .1 .1 .1 .1 .1 .0) (are .0) (are .1 .0 .1) 𝓣 known-first known-work
       (are .1 .1 .0 .0 .1) (are .1 .1 .1 .0 .0 .1) (are .1 .1 .1 .1 .0 .0 .1) (are .1 .1 .1 .1 .1 .0 .0 .1) (are .1 .1 .1 .1 .1 .1 .0 .0 .1)))
 
   evaluate-meets : Meets 𝓤 H A eval.signature (WpFn 𝓤 H (𝓣 .C) (𝓣 .Λ) code.function) (eval.spec 𝓤 H A mem run)

@@ -140,7 +140,8 @@ module _ {M : Type 1} (𝓤 : URA M) (H : Heap 𝓤) (A : Atoms 𝓤) (W : Given
     Λ = 𝓣 .Λ
 
     abbrev En : Env 𝓤 H
-    En = (array, l₀) ∷ (slice, l₁) ∷ (word, l₂) ∷ (array, l₃) ∷ (word, l₄) ∷ (word, l₅) ∷ (array, l₆) ∷ (tyBool, l₇) ∷ (word, l₈) ∷ (tyPtr, l₉) ∷ (cell, l₁₀) ∷ (word, l₁₁) ∷ (tyPtr, l₁₂) ∷ (tyPtr, l₁₃) ∷ []
+    En = (array, l₀) ∷ (slice, l₁) ∷ (word, l₂) ∷ (array, l₃) ∷ (word, l₄) ∷ (word, l₅) ∷ (array, l₆) ∷ (tyBool, l₇) ∷ (word, l₈) ∷ (tyPtr, l₉) ∷ (cell, l₁₀) ∷ (word, l₁₁) ∷ (tyPtr, l₁₂)
+        ∷ (tyPtr, l₁₃) ∷ []
 
     -- what no turn touches
     abbrev Frame : List (Item 𝓤)
@@ -267,8 +268,10 @@ module _ {M : Type 1} (𝓤 : URA M) (H : Heap 𝓤) (A : Atoms 𝓤) (W : Given
   module _ (𝓣 : Tables 𝓤 H) (known-count : Triple 𝓤 (𝓣 .C #count) (Count 𝓤 H A mem run)) (known-none : Triple 𝓤 (𝓣 .C #none) (None 𝓤 H A mem run)) where
     walk : Room Row n → ent 𝓤 (onEntry 𝓤 H A first.signature (κ, tt) (q, tt) (record { ptr = (b, o); name = γ; now = gs }, tt) at) (WpFn 𝓤 H (𝓣 .C) (𝓣 .Λ) code.function (sliceVal (b, o) n ∷ []) Post)
     walk g =
-        qed W ((‵ (flft κ q) ⊛ ‵ ftrue) ∷ ‵ (owns (ShrSlice (named 0) κ Row ∷ []) (record { ptr = (b, o); name = γ; now = gs }, tt) at) ∷ []) ∵ enter ! (𝓣 .C) (𝓣 .Λ) code.function (sliceVal (b, o) n ∷ []) _ $
-        alloc1 ! (λ l₀. alloc1 ! (λ l₁. alloc1 ! (λ l₂. alloc1 ! (λ l₃. alloc1 ! (λ l₄. alloc1 ! (λ l₅. alloc1 ! (λ l₆. alloc1 ! (λ l₇. alloc1 ! (λ l₈. alloc1 ! (λ l₉. alloc1 ! (λ l₁₀. alloc1 ! (λ l₁₁. alloc1 ! (λ l₁₂. alloc1 ! (λ l₁₃. alloc0 ! $ params1 ! $
+        qed W ((‵ (flft κ q) ⊛ ‵ ftrue) ∷ ‵ (owns (ShrSlice (named 0) κ Row ∷ []) (record { ptr = (b, o); name = γ; now = gs }, tt) at)
+        ∷ []) ∵ enter ! (𝓣 .C) (𝓣 .Λ) code.function (sliceVal (b, o) n ∷ []) _ $
+        alloc1 ! (λ l₀. alloc1 ! (λ l₁. alloc1 ! (λ l₂. alloc1 ! (λ l₃. alloc1 ! (λ l₄. alloc1 ! (λ l₅. alloc1 ! (λ l₆. alloc1 ! (λ l₇. alloc1 ! (λ l₈. alloc1 ! (λ l₉. alloc1 ! (λ l₁₀.
+        alloc1 ! (λ l₁₁. alloc1 ! (λ l₁₂. alloc1 ! (λ l₁₃. alloc0 ! $ params1 ! $
         pass1 ! (init ! 24 refl (tt, (tt, (record { fits = g .0 }, tt)))) $ pass0 ! $
         assigns ! (of-opd ! (load ! (from ! (fld ! refl (stop !))) (look-in ! 24 (sub ! 1 refl (whole !))))) (from ! (stop !)) (init ! 16 refl (tt, record { fits = g .0 })) $
         -- `listed_count`
@@ -305,7 +308,8 @@ module _ {M : Type 1} (𝓤 : URA M) (H : Heap 𝓤) (A : Atoms 𝓤) (W : Given
       (λ κs qs bounds a _ are. via 𝓤 _ (fst∗ 𝓤 _ (emp 𝓤)) (walk 𝓤 H A W mem run (κs .0) (qs .0) (a .0 .ptr .0) (a .0 .ptr .1) (a .0 .name) (a .0 .now) 𝓣 known-count known-none (are .0 .0 .1)))
 
   first-meets : Meets 𝓤 H A first.signature (WpFn 𝓤 H (𝓣 .C) (𝓣 .Λ) code.function) (first.spec 𝓤 H A mem run)
-  first-meets = walk-meets 𝓤 H A first.ended stayed W (goes-none-slice 𝓤 H A W 1 (0 ∷ []) tt (plain (λ _. Row)) yes, tt) (first.clauses 𝓤 H A mem run) (WpFn 𝓤 H (𝓣 .C) (𝓣 .Λ) code.function) (WpFn-mono 𝓤 H (W .laws) 𝓣 code.function) first-walks
+  first-meets = walk-meets 𝓤 H A first.ended stayed W (goes-none-slice 𝓤 H A W 1 (0 ∷ []) tt (plain (λ _. Row)) yes, tt) (first.clauses 𝓤 H A mem run) (WpFn 𝓤 H (𝓣 .C) (𝓣 .Λ) code.function)
+      (WpFn-mono 𝓤 H (W .laws) 𝓣 code.function) first-walks
 
 pub first-gates-spec : {M : Type 1} → stated.statement M
 unfolding code.routine tablesOf

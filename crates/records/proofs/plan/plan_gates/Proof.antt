@@ -76,6 +76,9 @@ module _ {M : Type 1} (𝓤 : URA M) (H : Heap 𝓤) (A : Atoms 𝓤) (W : Given
   abbrev n : ℕ
   n = length (x .now)
 
+  abbrev listed : List Gate
+  listed = take (listedCount n) (firstGates (x .now))
+
   abbrev w : Val
   w = sliceVal (y .ptr) (length (y .now))
 
@@ -136,20 +139,24 @@ module _ {M : Type 1} (𝓤 : URA M) (H : Heap 𝓤) (A : Atoms 𝓤) (W : Given
         use1 W (‵ (Gates κ x) ⊛ ‵ (Gates κ x)) (shr-slice-copy 𝓤 H A W (named 0) κ G.the-row .twice x (slice x ∷ [])) $ split ! $ move ! (21 ∷ []) $ split ! $
         -- [the token of the gates; that of the bounds; what the gates own, twice; what the bounds own; _8; …; room for _0; …]
         move ! (0 ∷ 2 ∷ []) $
-        calls-first 𝓤 H A mem run W κ q x ! (fmOf 𝓤 H (W .laws) 𝓣) known-first (and-then ! (load ! (from ! (stop !)) (look ! 14 refl)) (no-more !)) (λ u is. land ! (from ! (stop !)) (init ! 11 refl (array-typed 𝓤 H A W (firstGates (x .now)) u is)) $
+        calls-first 𝓤 H A mem run W κ q x ! (fmOf 𝓤 H (W .laws) 𝓣) known-first (and-then ! (load ! (from ! (stop !)) (look ! 14 refl)) (no-more !)) (λ u is. land ! (from ! (stop !))
+        (init ! 11 refl (array-typed 𝓤 H A W (firstGates (x .now)) u is)) $
         -- [the array; the two tokens; what the gates own; what the bounds own; _8; …; room for _0; …]
         assigns ! (of-opd ! (load ! (from ! (fld ! refl (stop !))) (look-in ! 15 (sub ! 1 refl (whole !))))) (from ! (stop !)) (init ! 9 refl (tt, record { fits = g .0 })) $
         assigns ! (addr ! (from ! (fld ! refl (hop ! (look-in ! 13 (sub ! 0 refl (whole !))) (stop !))))) (from ! (stop !)) (init ! 7 refl (tt, tt)) $
-        assigns ! (agg ! (and-then ! (load ! (from ! (stop !)) (look ! 7 refl)) (and-then ! (load ! (from ! (fld ! refl (stop !))) (look-in ! 13 (sub ! 1 refl (whole !)))) (no-more !)))) (from ! (stop !)) (init ! 5 refl (tt, (tt, (record { fits = g′ .0 }, tt)))) $
+        assigns ! (agg ! (and-then ! (load ! (from ! (stop !)) (look ! 7 refl)) (and-then ! (load ! (from ! (fld ! refl (stop !))) (look-in ! 13 (sub ! 1 refl (whole !)))) (no-more !))))
+        (from ! (stop !)) (init ! 5 refl (tt, (tt, (record { fits = g′ .0 }, tt)))) $
         move ! (2 ∷ 0 ∷ 4 ∷ []) $ use3 W (raw (Work 𝓤 H A mem run .pre (to-work u))) (goes-work u (g .0)) $
         calls-at ! (fmOf 𝓤 H (W .laws) 𝓣) (Work 𝓤 H A mem run) known-work (to-work u)
-        (and-then ! (load ! (from ! (stop !)) (look ! 17 refl)) (and-then ! (load ! (from ! (stop !)) (look ! 15 refl)) (and-then ! (load ! (from ! (stop !)) (look ! 9 refl)) (and-then ! (load ! (from ! (stop !)) (look ! 7 refl)) (and-then ! (load ! (from ! (stop !)) (look ! 3 refl)) (no-more !)))))) (λ u′.
-        use1 W (later (some (λ (t : Refusal). ((‵ (flft κ′ q′) ⊛ ‵ ftrue) ⊛ ‵ (R.the-row .own t (u′ ∷ []))) ⊛ raw (ensured 𝓤 H A work.ended (work.clauses 𝓤 H A mem run) (κ′, tt) passed tt t)))) (id⊢ 𝓤 _) $ await ! tt $ pick ! (λ t.
+        (and-then ! (load ! (from ! (stop !)) (look ! 17 refl)) (and-then ! (load ! (from ! (stop !)) (look ! 15 refl)) (and-then ! (load ! (from ! (stop !)) (look ! 9 refl))
+        (and-then ! (load ! (from ! (stop !)) (look ! 7 refl)) (and-then ! (load ! (from ! (stop !)) (look ! 3 refl)) (no-more !)))))) (λ u′.
+        use1 W (later (some (λ (t : Refusal). ((‵ (flft κ′ q′) ⊛ ‵ ftrue) ⊛ ‵ (R.the-row .own t (u′ ∷ []))) ⊛ raw
+        (ensured 𝓤 H A work.ended (work.clauses 𝓤 H A mem run) (κ′, tt) passed tt t)))) (id⊢ 𝓤 _) $ await ! tt $ pick ! (λ t.
         split ! $ move ! (1 ∷ []) $
         use1 W (some (λ (zs : Lasts work.ended (κ′, tt) passed). ‵ (lasts work.ended (κ′, tt) passed zs)
-        ⊛ raw (fact 𝓤 (t ≡ planAnswer p inputs (take (listedCount n) (firstGates (x .now))) (y .now))) ⊛ raw (fact 𝓤 (zs .1 .1 .1 .1 .0 ≡ planBounds p inputs (take (listedCount n) (firstGates (x .now))) (y .now))))) (id⊢ 𝓤 _) $ pick ! (λ zs.
-        split ! $ move ! (1 ∷ []) $ split ! $ heard ! (t ≡ planAnswer p inputs (take (listedCount n) (firstGates (x .now))) (y .now)) (λ e₁.
-        heard ! (zs .1 .1 .1 .1 .0 ≡ planBounds p inputs (take (listedCount n) (firstGates (x .now))) (y .now)) (λ e₂.
+        ⊛ raw (fact 𝓤 (t ≡ planAnswer p inputs listed (y .now))) ⊛ raw (fact 𝓤 (zs .1 .1 .1 .1 .0 ≡ planBounds p inputs listed (y .now))))) (id⊢ 𝓤 _) $ pick ! (λ zs.
+        split ! $ move ! (1 ∷ []) $ split ! $ heard ! (t ≡ planAnswer p inputs listed (y .now)) (λ e₁.
+        heard ! (zs .1 .1 .1 .1 .0 ≡ planBounds p inputs listed (y .now)) (λ e₂.
         fsplit ! $ drop ! $ fsplit ! $ drop ! $ fsplit ! $ drop ! $ fsplit ! $ drop ! $ fsplit ! $ fsplit ! $ move ! (1 ∷ []) $ feqL ! (λ l. move ! (1 ∷ []) $ drop ! $ move ! (1 ∷ []) $
         split ! $ move ! (1 ∷ []) $
         -- [the result; the token of the bounds; the last bounds; the token of the gates; what the gates own; _8; …; room for _0; …]
@@ -167,11 +174,20 @@ module _ {M : Type 1} (𝓤 : URA M) (H : Heap 𝓤) (A : Atoms 𝓤) (W : Given
   plan-walks = walked 𝓤 H A plan.ended stayed (plan.clauses 𝓤 H A mem run) (WpFn 𝓤 H (𝓣 .C) (𝓣 .Λ) code.function)
       (λ κs. (LL.vals P.the-type P′.the-laws, (uint-vals w32, (slice-vals, (slice-vals, tt)))))
       (λ κs. (LL.tells P.the-type P′.the-laws, (uint-tells w32, (shr-slice-tells (named 0) (κs .0) G.the-row, (mut-slice-tells (named 1) (κs .1 .0) u32, tt)))))
-      (λ κs qs bounds a _ are. via 𝓤 _ (fst∗ 𝓤 _ (emp 𝓤)) (walk 𝓤 H A W mem run (κs .0) (κs .1 .0) (qs .0) (qs .1 .0) (a .0) (a .1 .0) (a .1 .1 .0) (a .1 .1 .1 .0) (are .0) (are .1 .0 .1) 𝓣 known-first known-work (are .1 .1 .0 .0 .1) (are .1 .1 .1 .0 .0 .1)))
+      (λ κs qs bounds a _ are. via 𝓤 _ (fst∗ 𝓤 _ (emp 𝓤)) (walk 𝓤 H A W mem run (κs .0) (κs .1 .0) (qs .0) (qs .1 .0) (a .0) (a .1 .0) (a .1 .1 .0)
+      (a .1 .1 .1 .0) (are .0) (are .1 .0 .1) 𝓣 known-first known-work (are .1 .1 .0 .0 .1) (are .1 .1 .1 .0 .0 .1)))
 
   plan-meets : Meets 𝓤 H A plan.signature (WpFn 𝓤 H (𝓣 .C) (𝓣 .Λ) code.function) (plan.spec 𝓤 H A mem run)
-  plan-meets = walk-meets 𝓤 H A plan.ended stayed W
-      (goes-none 𝓤 H A W 2 (λ _. P.the-row) yes (λ κs x f. refl), (goes-none 𝓤 H A W 2 (λ _. u32) yes (λ κs x f. refl), (goes-none-slice 𝓤 H A W 2 (0 ∷ []) tt (plain (λ _. G.the-row)) yes, (goes-gave-slice 𝓤 H A W 2 1 tt (plain (λ _. u32)), tt))))
+  plan-meets = walk-meets 𝓤 H A plan.ended stayed W (
+    goes-none 𝓤 H A W 2 (λ _. P.the-row) yes (λ κs x f. refl),
+    (
+      goes-none 𝓤 H A W 2 (λ _. u32) yes (λ κs x f. refl),
+      (
+        goes-none-slice 𝓤 H A W 2 (0 ∷ []) tt (plain (λ _. G.the-row)) yes,
+        (goes-gave-slice 𝓤 H A W 2 1 tt (plain (λ _. u32)), tt),
+      ),
+    ),
+  )
       (plan.clauses 𝓤 H A mem run) (WpFn 𝓤 H (𝓣 .C) (𝓣 .Λ) code.function) (WpFn-mono 𝓤 H (W .laws) 𝓣 code.function) plan-walks
 
 pub plan-gates-spec : {M : Type 1} → stated.statement M
