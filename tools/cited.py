@@ -1,12 +1,12 @@
 #!/usr/bin/env python3
-"""What a crate's specs and proofs cite and unfold of the crates below it, against an allowed list.
+"""What the circuit layer's specs and proofs cite and unfold of the crates below it, against an allowed list.
 
-The circuit layer is to rely on nothing about the arithmetic but its published promise: its proofs name the definitions that the
-promises are made of and cite laws about them, and open none of them. This script reads every `.antt` and `.rt` file of the crate,
+The circuit layer, the crates `circuit` and `evaluation`, is to rely on nothing about the arithmetic but its published promise: its proofs name the definitions that the
+promises are made of and cite laws about them, and open none of them. This script reads every `.antt` and `.rt` file of the layer,
 takes each name that comes from a crate below, and fails where a name is cited or unfolded that the list does not allow, and where
 the list allows what is not used.
 
-    python3 tools/cited.py             the crate circuit, against tools/cited.txt
+    python3 tools/cited.py             the layer, against tools/cited.txt
     python3 tools/cited.py --list      prints what it found, in the form of the list
 """
 import pathlib
@@ -14,7 +14,7 @@ import re
 import sys
 
 ROOT = pathlib.Path(__file__).resolve().parent.parent
-CRATE = "circuit"
+LAYER = ("circuit", "evaluation")
 ALLOWED = ROOT / "tools" / "cited.txt"
 
 USE = re.compile(r"^(?:ghost )?use Rattle·([a-z]+)\.([A-Za-z0-9_.]+?)\.\{([^}]*)\}", re.M)
@@ -34,18 +34,20 @@ def names_of(text):
 
 
 def below():
-    """The crates that the crate leans on."""
+    """The crates that the layer leans on."""
+    lower = set()
     for line in (ROOT / "crates.txt").read_text().splitlines():
-        if line.startswith(CRATE + ":"):
-            return line.split(":")[1].split()
-    raise SystemExit(f"cited: crates.txt has no crate {CRATE}")
+        crate, _, deps = line.partition(":")
+        if crate in LAYER:
+            lower |= set(deps.split())
+    return lower - set(LAYER)
 
 
 def scan():
-    """All (what, crate, module, name) of the crate's files: what is calls, cites or unfolds."""
+    """All (what, crate, module, name) of the layer's files: what is calls, cites, unfolds or computes."""
     rows = set()
-    lower = set(below())
-    for path in sorted((ROOT / "crates" / CRATE).rglob("*")):
+    lower = below()
+    for path in sorted(path for crate in LAYER for path in (ROOT / "crates" / crate).rglob("*")):
         if path.suffix not in (".antt", ".rt"):
             continue
         text = path.read_text()
@@ -94,7 +96,7 @@ def main():
         print(f"cited: not allowed: {line}")
     for line in show(allowed - found):
         print(f"cited: allowed, and not used: {line}")
-    print(f"cited: {CRATE}: {len(found)} names from below, {len(found ^ allowed)} faults")
+    print(f"cited: {len(found)} names from below, {len(found ^ allowed)} faults")
     return 1 if found ^ allowed else 0
 
 
