@@ -16,7 +16,7 @@ use Rattle.scheme.specs.Arithmetic.{isResidue}
 use Rattle.scheme.specs.Calls.{encryptRows, decryptRows}
 use Rattle.scheme.specs.Passed.{params-in-range, length-is, key-within, bit-within, entries-inside, errors-within}
 use Rattle.modular.specs.Loans.{Modulus}
-use Rattle.regev.proofs.Chain.{params-modulus}
+use Rattle.keys.specs.Chain.{params-modulus}
 
 pub record EncryptReady (p : Params) (s : List ℤ) (b : ℕ) (a : List ℤ) (e : ℤ) (result : ℕ) : Type 0 where
   pub modulus : Modulus (p .q)

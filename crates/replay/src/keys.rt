@@ -5,10 +5,10 @@ ghost use Rattle.stream.specs.Bounds.{Placed};
 use crate::lent;
 use crate::print;
 use crate::read::SHORT;
+use keys::bench;
+use keys::key;
+use keys::switching;
 use refusal::Params;
-use regev::bench;
-use regev::key;
-use regev::switching;
 
 // Call 3: a parameter set and a key.
 pub fn check_key(call: &[i64], text: &mut [u8], at: usize) -> usize

@@ -13,7 +13,7 @@ use Rattle.refusal.specs.First.{first-last, first-row, first-rest, row}
 use Rattle.refusal.specs.Parameters.{InRange}
 use Rattle.scheme.specs.Calls.{badParams, differs, outside}
 use Rattle.scheme.specs.Passed.{params-tested, answered-range, length-is}
-use Rattle.regev.specs.Moduli.{params-modulus}
+use Rattle.keys.specs.Moduli.{params-modulus}
 use Rattle.circuit.specs.Circuits.{badCounts}
 use Rattle.circuit.specs.Core.{uneven, evaluateCoreRows}
 use Rattle.circuit.specs.Answers.{inputs-within, gates-within}

@@ -10,7 +10,7 @@ use lib.ListN.{length, take, drop}
 use borrow.Author.Needs.{needs}
 use Rattle.whole.specs.Lists.{cut, getD-cut, row-ends}
 use Rattle.scheme.specs.Arithmetic.{XOR, NOT, AND}
-use Rattle.regev.specs.Moduli.{params-modulus}
+use Rattle.keys.specs.Moduli.{params-modulus}
 use Rattle.circuit.specs.Circuits.{byKind}
 use Rattle.circuit.specs.Core.{gate}
 use Rattle.circuit.specs.Records.{Below, gate-below}

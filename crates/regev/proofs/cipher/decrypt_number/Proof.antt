@@ -6,7 +6,7 @@ use Rattle.whole.specs.Tests.{or-left}
 use Rattle.refusal.specs.First.{firstOf}
 use Rattle.scheme.specs.Calls.{badParams, decryptRows}
 use Rattle.scheme.specs.Passed.{params-in-range}
-use Rattle.regev.proofs.Chain.{params-modulus, short, params-tested}
+use Rattle.keys.specs.Chain.{params-modulus, short, params-tested}
 use Rattle.regev.proofs.cipher.decrypt_number.Statement.{statement}
 use Rattle.regev.proofs.cipher.decrypt_number.Tie as tie
 

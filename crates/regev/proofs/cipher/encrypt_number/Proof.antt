@@ -9,7 +9,7 @@ use Rattle.refusal.specs.First.{firstOf}
 use Rattle.refusal.specs.Parameters.{InRange}
 use Rattle.scheme.specs.Calls.{badParams, encryptRows}
 use Rattle.scheme.specs.Passed.{params-in-range}
-use Rattle.regev.proofs.Chain.{params-modulus, short, params-tested}
+use Rattle.keys.specs.Chain.{params-modulus, short, params-tested}
 use Rattle.regev.proofs.cipher.encrypt_number.Statement.{statement}
 use Rattle.regev.proofs.cipher.encrypt_number.Tie as tie
 

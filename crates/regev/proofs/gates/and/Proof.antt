@@ -8,7 +8,7 @@ use lib.ListN.{length, replicate}
 use Rattle.refusal.specs.First.{firstOf}
 use Rattle.scheme.specs.Arithmetic.{AND}
 use Rattle.scheme.specs.Calls.{andRows, andAnswer, andResult, andScratch}
-use Rattle.regev.proofs.Chain.{params-modulus, refused-kept, done-written, bounded-refused, bounded-done}
+use Rattle.keys.specs.Chain.{params-modulus, refused-kept, done-written, bounded-refused, bounded-done}
 use Rattle.regev.proofs.ReadyGates.{AndReady, and-ready}
 use borrow.Author.Needs.{needs}
 use Rattle.regev.proofs.gates.and.Statement.{statement}

@@ -12,7 +12,7 @@ use Rattle.refusal.specs.Parameters.{InRange}
 use Rattle.scheme.specs.Arithmetic.{AND-bound}
 use Rattle.scheme.specs.Calls.{badParams, outside, overBudget, andRows}
 use Rattle.scheme.specs.Passed.{bound-fits}
-use Rattle.regev.proofs.Chain.{params-modulus, answered-range}
+use Rattle.keys.specs.Chain.{params-modulus, answered-range}
 use borrow.Author.Needs.{needs}
 use Rattle.regev.proofs.gates.and_number.Statement.{statement}
 use Rattle.regev.proofs.gates.and_number.Tie as tie

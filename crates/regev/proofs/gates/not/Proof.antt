@@ -5,7 +5,7 @@ use lib.ListN.{length}
 use Rattle.refusal.specs.First.{firstOf}
 use Rattle.scheme.specs.Arithmetic.{NOT-bound}
 use Rattle.scheme.specs.Calls.{notRows, notAnswer, notResult}
-use Rattle.regev.proofs.Chain.{params-modulus, refused-kept, done-written, bounded-refused, bounded-done}
+use Rattle.keys.specs.Chain.{params-modulus, refused-kept, done-written, bounded-refused, bounded-done}
 use Rattle.regev.proofs.ReadyGates.{not-ready}
 use borrow.Author.Needs.{needs}
 use Rattle.regev.proofs.gates.not.Statement.{statement}

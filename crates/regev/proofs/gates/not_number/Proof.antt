@@ -2,7 +2,7 @@
 use mathlib.Core.Path.{sym}
 use Rattle.refusal.specs.First.{firstOf}
 use Rattle.scheme.specs.Calls.{badParams, notRows}
-use Rattle.regev.proofs.Chain.{params-modulus, answered-range}
+use Rattle.keys.specs.Chain.{params-modulus, answered-range}
 use borrow.Author.Needs.{needs}
 use Rattle.regev.proofs.gates.not_number.Statement.{statement}
 use Rattle.regev.proofs.gates.not_number.Tie as tie

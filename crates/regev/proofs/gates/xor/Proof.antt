@@ -6,7 +6,7 @@ use lib.ListN.{length}
 use Rattle.refusal.specs.First.{firstOf}
 use Rattle.scheme.specs.Arithmetic.{XOR-bound}
 use Rattle.scheme.specs.Calls.{xorRows, xorAnswer, xorResult}
-use Rattle.regev.proofs.Chain.{params-modulus, refused-kept, done-written, bounded-refused, bounded-done}
+use Rattle.keys.specs.Chain.{params-modulus, refused-kept, done-written, bounded-refused, bounded-done}
 use Rattle.regev.proofs.ReadyGates.{XorReady, xor-ready}
 use borrow.Author.Needs.{needs}
 use Rattle.regev.proofs.gates.xor.Statement.{statement}

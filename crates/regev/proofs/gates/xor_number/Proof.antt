@@ -4,7 +4,7 @@ use Rattle.refusal.specs.First.{firstOf}
 use Rattle.refusal.specs.Parameters.{InRange}
 use Rattle.scheme.specs.Arithmetic.{XOR-bound}
 use Rattle.scheme.specs.Calls.{badParams, xorRows}
-use Rattle.regev.proofs.Chain.{params-modulus, answered-range}
+use Rattle.keys.specs.Chain.{params-modulus, answered-range}
 use borrow.Author.Needs.{needs}
 use Rattle.regev.proofs.gates.xor_number.Statement.{statement}
 use Rattle.regev.proofs.gates.xor_number.Tie as tie
