@@ -4,15 +4,13 @@ ghost use Prim.Native.Nat.{_≤_};
 ghost use lib.ListN.{length, take};
 ghost use Rattle.io.specs.Counts.{Counts};
 ghost use Rattle.gatfile.specs.Text.{text};
+use gatfile::text::ROOM;
 use libc::STDERR_FILENO;
 use libc::STDIN_FILENO;
 use libc::STDOUT_FILENO;
 
 // One byte more than the longest valid file has. A longer file has the text of its first so many bytes: `long-text` of gatfile's specs/Long.
 const MOST: usize = 20504;
-
-// Room for any text.
-const ROOM: usize = 102432;
 
 // How many bytes were read, and whether a read failed.
 struct Input {

@@ -1,5 +1,5 @@
 -- The four ends of planning on a file: what each answers, and what it leaves in the buffer of bounds.
-use mathlib.Core.Path.{_≡_, refl, sym, ap, _∙_}
+use mathlib.Core.Path.{_≡_, sym, ap, _∙_}
 use mathlib.Core.Logic.{_≢_}
 use mathlib.Core.Bool.{true, false, not}
 use mathlib.Core.List.{List, flatMap}
@@ -10,10 +10,9 @@ use borrow.Author.Tests.{ne-eqb}
 use Rattle.refusal.specs.declared.Refusal.{Refusal}
 use Rattle.refusal.specs.First.{firstOf, doneOr-done, doneOr-refused}
 use Rattle.refusal.specs.Parameters.{refused}
-use Rattle.scheme.specs.Calls.{differs}
 use Rattle.scheme.specs.Passed.{differs-is, lengths-same}
 use Rattle.gatfile.specs.File.{fileInputs, fileGateCount, headRows, fileBounds, fourBytes, planNumber, planFileBuffer}
-use Rattle.gatfile.specs.Order.{HeadRight, gateAnswer, planRefusal, plan-headed, plan-headed-number, plan-short, plan-refused, plan-gates, plan-settled}
+use Rattle.gatfile.specs.Order.{HeadRight, otherLength, gateAnswer, planRefusal, plan-headed, plan-headed-number, plan-short, plan-refused, plan-gates, plan-settled}
 
 module _ (file buffer : List ℕ) where
   abbrev pub Planned : Refusal → List ℕ → Type 0
@@ -32,11 +31,11 @@ module _ (file buffer : List ℕ) where
     -- the buffer has another length
     pub planned-short : length buffer ≢ 4 * (fileInputs file + fileGateCount file) → Planned (refused 3 0) buffer
     planned-short h =
-        let d : differs (length buffer) (4 * (fileInputs file + fileGateCount file)) ≡ true = differs-is _ _ ∙ ap not (ne-eqb _ _ h) in
+        let d : otherLength file buffer ≡ true = differs-is _ _ ∙ ap not (ne-eqb _ _ h) in
         (plan-refused file r buffer d, as-found (λ z. omega (arith, plan-short file r buffer d)))
 
     module _ (h : length buffer ≡ 4 * (fileInputs file + fileGateCount file)) {a : Refusal} (e : a ≡ gateAnswer file) where
-      d : differs (length buffer) (4 * (fileInputs file + fileGateCount file)) ≡ false
+      d : otherLength file buffer ≡ false
       d = lengths-same _ _ h
 
       number : planNumber file buffer ≡ a .number

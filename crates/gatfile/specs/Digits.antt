@@ -1,9 +1,9 @@
--- The digits of a number one after the other, how many there are, and how long the lines of the text are.
-use mathlib.Core.Path.{_≡_, refl, sym, ap, _∙_}
+-- The digits of a number: one, or the last behind the others; and how many there are.
+use mathlib.Core.Path.{_≡_, refl, ap, _∙_}
 use mathlib.Core.Bool.{Bool, true, false, cond}
 use mathlib.Core.List.{List, [], _∷_, _++_}
-use Prim.Native.Nat.{ℕ, zero, suc, _+_, _*_, _/_, _%_, _^_, _≤_, _<_}
-use native.Mathlib.Nat.{pow-suc, not-suc-le-zero, div-lt-iff-lt-mul, zero-lt-suc}
+use Prim.Native.Nat.{ℕ, zero, suc, _+_, _/_, _%_, _^_, _≤_, _<_}
+use native.Mathlib.Nat.{pow-suc, not-suc-le-zero}
 use native.Mathlib.Omega.{arith}
 use lib.Dec.{ltb}
 use lib.ListN.{length, length-append}

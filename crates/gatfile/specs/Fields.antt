@@ -1,11 +1,11 @@
--- Fields read in two parts: what stands in front, and then the rest, as big-endian has it. And the gates of a file as three lists.
-use mathlib.Core.Path.{_≡_, refl, sym, ap, ap₂, _∙_}
+-- Fields read in two parts: what stands in front, and then the rest, as big-endian has it.
+use mathlib.Core.Path.{_≡_, sym, ap, _∙_}
 use mathlib.Core.List.{List, [], _∷_, _++_, foldl, foldl-append}
-use Prim.Native.Nat.{ℕ, zero, suc, _+_, _*_, _^_, _≤_, _<_}
+use Prim.Native.Nat.{ℕ, _+_, _*_, _^_, _≤_, _<_}
 use native.Mathlib.Nat.{pow-suc}
 use native.Mathlib.Omega.{arith}
 use lib.ListN.{length, getD, take, drop, length-drop}
-use lib.Seq.{take-add, take-suc, drop-drop, drop-cons, length-take-le}
+use lib.Seq.{take-add, drop-drop, drop-cons, length-take-le}
 use Rattle.gatfile.specs.File.{bigEndian, field}
 
 more : (w x y z : ℕ) → w * (256 * x + y) + z ≡ w * 256 * x + (w * (256 * 0 + y) + z)

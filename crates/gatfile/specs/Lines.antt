@@ -3,7 +3,7 @@ use mathlib.Core.Path.{_≡_, refl, sym, ap, _∙_}
 use mathlib.Core.Logic.{_≢_}
 use mathlib.Core.Bool.{Bool, true, false, cond}
 use mathlib.Core.List.{List, [], _∷_, _++_, append-assoc, flatMap}
-use Prim.Native.Nat.{ℕ, zero, suc, _+_, _*_, _-_, _/_, _^_, _≤_, _<_}
+use Prim.Native.Nat.{ℕ, zero, suc, _+_, _*_, _-_, _/_, _≤_, _<_}
 use native.Mathlib.Omega.{arith}
 use lib.Dec.{ltb}
 use lib.ListN.{length, getD, take, drop, length-append}
@@ -88,12 +88,12 @@ unfolding pairLine
 pair-flat word x y = simp append-assoc
 
 pub ok-line : (file : List ℕ) {Bs : List ℕ} {p : Params} → Bs ≡ fileBounds file → p ≡ fileParams file
-    → pairLine (79 ∷ 75 ∷ 32 ∷ []) (getD Bs (length Bs - 1) 0) ((p .q - 1) / 4) ≡ okLine file
-unfolding okLine wordOK largestBound
+    → pairLine (wordOK ++ (32 ∷ [])) (getD Bs (length Bs - 1) 0) ((p .q - 1) / 4) ≡ okLine file
+unfolding okLine largestBound
 ok-line file e f = rw (e, f, length-bounds) (pair-flat wordOK _ _)
 
-refused-line : (k at : ℕ) → pairLine (82 ∷ 69 ∷ 70 ∷ 85 ∷ 83 ∷ 69 ∷ 68 ∷ 32 ∷ []) k at ≡ refusedLine k at
-unfolding refusedLine wordREFUSED
+refused-line : (k at : ℕ) → pairLine (wordREFUSED ++ (32 ∷ [])) k at ≡ refusedLine k at
+unfolding refusedLine
 refused-line k at = pair-flat wordREFUSED k at
 
 -- ---- the text, by what the check answers
@@ -103,7 +103,7 @@ module _ (file : List ℕ) {a : Refusal} (e : a ≡ checkRefusal file) where
   unfolding checkRefusal
   number = ap (λ (a : Refusal). a .number) e
 
-  pub text-refused : a .number ≢ 0 → pairLine (82 ∷ 69 ∷ 70 ∷ 85 ∷ 83 ∷ 69 ∷ 68 ∷ 32 ∷ []) (a .number) (a .place) ≡ text file
+  pub text-refused : a .number ≢ 0 → pairLine (wordREFUSED ++ (32 ∷ [])) (a .number) (a .place) ≡ text file
   unfolding text checkRefusal
   text-refused h = refused-line (a .number) (a .place) ∙ rw e (sym (doneOr-refused _ _ (λ z. h (number ∙ z))))
 

@@ -3,10 +3,10 @@
 use mathlib.Core.Path.{_≡_, refl, sym, ap, _∙_}
 use mathlib.Core.Logic.{_≢_}
 use mathlib.Core.Bool.{Bool, true, false, not, cond}
-use mathlib.Core.List.{List, [], _∷_}
-use Prim.Native.Nat.{ℕ, _+_, _*_, _≤_, _<_}
+use mathlib.Core.List.{List, [], _∷_, _++_}
+use Prim.Native.Nat.{ℕ, _+_, _*_, _≤_}
 use native.Mathlib.Omega.{arith}
-use lib.ListN.{length, getD, take, drop}
+use lib.ListN.{length, take}
 use lib.Seq.{length-take-le, getD-take}
 use borrow.Author.Tests.{le-ltb, ne-eqb}
 use Rattle.whole.specs.Lists.{part-take}
@@ -16,7 +16,7 @@ use Rattle.scheme.specs.Passed.{differs-is}
 use Rattle.circuit.specs.Circuits.{badCounts}
 use Rattle.circuit.specs.Answers.{gates-within}
 use Rattle.gatfile.specs.File.{bigEndian, field, isKnown, fileParams, fileInputs, fileGateCount, headRows}
-use Rattle.gatfile.specs.Text.{text}
+use Rattle.gatfile.specs.Text.{wordREFUSED, text}
 use Rattle.gatfile.specs.Order.{check-headed}
 use Rattle.gatfile.specs.Lines.{pairLine, text-refused}
 
@@ -98,7 +98,7 @@ unfolding longOf
 long-text file h =
     sym (refuses (take 20504 file) (omega (arith, length-take-le 20504 file h))) ∙ rw same (refuses file h)
   where
-    refuses : (file : List ℕ) → 20504 ≤ length file → pairLine (82 ∷ 69 ∷ 70 ∷ 85 ∷ 83 ∷ 69 ∷ 68 ∷ 32 ∷ []) (longOf file) 0 ≡ text file
+    refuses : (file : List ℕ) → 20504 ≤ length file → pairLine (wordREFUSED ++ (32 ∷ [])) (longOf file) 0 ≡ text file
     refuses file h = text-refused file (check-headed file (sym (long-head file h)) (some-number file)) (some-number file)
 
     same : longOf (take 20504 file) ≡ longOf file

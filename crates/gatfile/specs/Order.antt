@@ -1,20 +1,20 @@
 -- The file's own order of refusals: what each end of it answers, and what it tells that no row of the head applies.
 use mathlib.Core.Path.{_≡_, refl, sym, ap, ap₂, _∙_}
 use mathlib.Core.Logic.{_≢_}
-use mathlib.Core.Bool.{Bool, true, false, not, cond, _&&_, _||_}
+use mathlib.Core.Bool.{Bool, true, false, not, cond, _&&_}
 use mathlib.Core.List.{List, [], _∷_, _++_}
 use Prim.Native.Nat.{ℕ, zero, suc, _+_, _*_, _≤_, _<_}
 use native.Mathlib.Omega.{arith}
 use lib.Dec.{leb, ltb, eqb}
 use lib.ListN.{length}
-use borrow.Author.Tests.{ltb-true, ltb-false, leb-true, not-false, not-true, eqb-false, ne-eqb}
-use Rattle.whole.specs.Tests.{and-left, and-right, or-left, or-right}
+use borrow.Author.Tests.{ltb-true, ltb-false, leb-true, not-false, not-true}
+use Rattle.whole.specs.Tests.{and-left, and-right, or-right}
 use Rattle.whole.specs.Lists.{nil, cons, all, length-tabulate}
 use Rattle.refusal.specs.declared.Refusal.{Refusal}
-use Rattle.refusal.specs.First.{Row, row, firstOf, firstTrue, Clear, first-front, first-rest, first-under, first-within}
+use Rattle.refusal.specs.First.{Row, firstOf, firstTrue, Clear, first-front, first-rest, first-under, first-within}
 use Rattle.refusal.specs.Parameters.{refused, within, InRange}
 use Rattle.scheme.specs.Calls.{badParams, differs}
-use Rattle.scheme.specs.Passed.{params-in-range, length-is, lengths-same, differs-is}
+use Rattle.scheme.specs.Passed.{params-in-range, length-is}
 use Rattle.circuit.specs.Circuits.{badCounts, wrongGates, overGates, gateRows, placeOf}
 use Rattle.circuit.specs.Answers.{inputs-within, gates-within}
 use Rattle.circuit.specs.Records.{length-wrongGates, length-overGates}
@@ -72,12 +72,17 @@ pub record HeadRight (file : List ℕ) : Type 0 where
   pub inputs-high : fileInputs file ≤ 1024
   pub gates-low : 1 ≤ fileGateCount file
   pub gates-high : fileGateCount file ≤ 4096
+  pub wires-high : fileInputs file + fileGateCount file ≤ 5120
   pub long : length file ≡ 23 + 5 * fileGateCount file
 
 some-gate : (inputs gates : ℕ) → badCounts inputs gates ≡ false → 1 ≤ gates
 unfolding badCounts
 some-gate inputs gates e =
     leb-true 1 gates (and-left (leb 1 gates) (leb gates 4096) (not-false (within 1 4096 gates) (or-right (not (within 1 1024 inputs)) (not (within 1 4096 gates)) e)))
+
+-- 3: planning's buffer has another length than four bytes a wire
+abbrev pub otherLength : List ℕ → List ℕ → Bool
+otherLength file buffer = differs (length buffer) (4 * (fileInputs file + fileGateCount file))
 
 module _ (file : List ℕ) where
   head-clear : firstOf (headRows file) ≡ 0 → Clear (headRows file)
@@ -88,19 +93,22 @@ module _ (file : List ℕ) where
   unfolding headRows
   head-right e =
       let t : Clear (headRows file) = head-clear e in
+      let inputs : fileInputs file ≤ 1024 = inputs-within (fileInputs file) (fileGateCount file) (t .1 .1 .1 .0) in
+      let gates : fileGateCount file ≤ 4096 = gates-within (fileInputs file) (fileGateCount file) (t .1 .1 .1 .0) in
       record {
         clear = t;
         enough = ltb-false (length file) 23 (t .0);
         ranges = t .1 .1 .0;
         range = params-in-range (fileParams file) (t .1 .1 .0);
         counts = t .1 .1 .1 .0;
-        inputs-high = inputs-within (fileInputs file) (fileGateCount file) (t .1 .1 .1 .0);
+        inputs-high = inputs;
         gates-low = some-gate (fileInputs file) (fileGateCount file) (t .1 .1 .1 .0);
-        gates-high = gates-within (fileInputs file) (fileGateCount file) (t .1 .1 .1 .0);
+        gates-high = gates;
+        wires-high = omega arith;
         long = length-is (length file) (23 + 5 * fileGateCount file) (t .1 .1 .1 .1 .0);
       }
 
-  -- the place of a number of the head
+  -- the place of the head's number is 0
   pub head-place : filePlace file (firstOf (headRows file)) ≡ 0
   unfolding headRows all
   head-place = place-none file (firstOf (headRows file)) (first-passes ofNoGate (headRows file) refl refl)
@@ -135,14 +143,14 @@ module _ (file : List ℕ) where
   unfolding checkNumber
   check-place = small-place (fileGateRows file)
 
-  -- and no number is above 12
-  pub check-small : checkNumber file < 13
-  unfolding checkNumber headRows fileGateRows gateRows
-  check-small = first-under (omega arith) (cons (omega arith) (cons (omega arith) (cons (omega arith) (cons (omega arith) (cons (omega arith) (cons (omega arith) (cons (omega arith) nil)))))))
-
   pub plan-place : (buffer : List ℕ) → filePlace file (planNumber file buffer) < 65536
   unfolding planNumber
   plan-place buffer = small-place _
+
+  -- no number is above 12
+  pub check-small : checkNumber file < 13
+  unfolding checkNumber headRows fileGateRows gateRows
+  check-small = first-under (omega arith) (cons (omega arith) (cons (omega arith) (cons (omega arith) (cons (omega arith) (cons (omega arith) (cons (omega arith) (cons (omega arith) nil)))))))
 
   -- ---- the answers, with number and place apart
 
@@ -200,18 +208,18 @@ module _ (file : List ℕ) where
     check-settled = ap answerOf (sym check-gates)
 
     -- planning's buffer has another length
-    pub plan-short : (buffer : List ℕ) → differs (length buffer) (4 * (fileInputs file + fileGateCount file)) ≡ true → planNumber file buffer ≡ 3
+    pub plan-short : (buffer : List ℕ) → otherLength file buffer ≡ true → planNumber file buffer ≡ 3
     unfolding planNumber firstOf
     plan-short buffer d = first-rest (headRows file) _ (r .clear) ∙ rw d
 
-    pub plan-refused : (buffer : List ℕ) → differs (length buffer) (4 * (fileInputs file + fileGateCount file)) ≡ true → refused 3 0 ≡ planRefusal buffer
+    pub plan-refused : (buffer : List ℕ) → otherLength file buffer ≡ true → refused 3 0 ≡ planRefusal buffer
     unfolding planRefusal
     plan-refused buffer d = ap₂ refused (sym (plan-short buffer d)) (sym (ap (filePlace file) (plan-short buffer d) ∙ place-none file 3 refl))
 
-    pub plan-gates : (buffer : List ℕ) → differs (length buffer) (4 * (fileInputs file + fileGateCount file)) ≡ false → planNumber file buffer ≡ firstOf (fileGateRows file)
+    pub plan-gates : (buffer : List ℕ) → otherLength file buffer ≡ false → planNumber file buffer ≡ firstOf (fileGateRows file)
     unfolding planNumber firstOf
     plan-gates buffer d = first-rest (headRows file) _ (r .clear) ∙ rw d
 
-    pub plan-settled : (buffer : List ℕ) → differs (length buffer) (4 * (fileInputs file + fileGateCount file)) ≡ false → gateAnswer ≡ planRefusal buffer
+    pub plan-settled : (buffer : List ℕ) → otherLength file buffer ≡ false → gateAnswer ≡ planRefusal buffer
     unfolding gateAnswer planRefusal
     plan-settled buffer d = ap answerOf (sym (plan-gates buffer d))

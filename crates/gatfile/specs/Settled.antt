@@ -1,14 +1,14 @@
--- Planning over the gates of a file whose head is right: the file's gates as three lists, its inputs at bound E, and what planning then answers and
--- leaves is what 9, 10 and the bounds of the file are.
+-- Planning a file whose head is right: its gates are lent as three lists and its inputs at bound E, and what planning then answers and leaves is what
+-- 9, 10 and the bounds of the file are.
 use mathlib.Core.Path.{_≡_, refl, sym, ap, ap₂, _∙_}
 use mathlib.Core.Bool.{true, false}
-use mathlib.Core.List.{List, [], _∷_, _++_}
-use Prim.Native.Nat.{ℕ, zero, suc, _+_, _*_, _≤_, _<_}
+use mathlib.Core.List.{List, _∷_, _++_}
+use Prim.Native.Nat.{ℕ, zero, suc, _+_, _<_}
 use native.Mathlib.Omega.{arith}
-use lib.ListN.{length, take, drop, replicate, length-replicate, getD-replicate, length-append, length-drop}
+use lib.ListN.{length, getD, take, drop, replicate, length-replicate, getD-replicate, length-append, length-drop}
 use lib.Seq.{take-at, length-take-le}
 use Rattle.whole.specs.Tests.{or-neither}
-use Rattle.whole.specs.Lists.{tabulate, length-tabulate, all, getD-all}
+use Rattle.whole.specs.Lists.{tabulate, length-tabulate, getD-tabulate, all, getD-all}
 use Rattle.refusal.specs.declared.Params.{Params}
 use Rattle.refusal.specs.declared.Refusal.{Refusal}
 use Rattle.refusal.specs.First.{firstOf, doneOr, doneOr-done}
@@ -16,45 +16,44 @@ use Rattle.scheme.specs.Arithmetic.{fits}
 use Rattle.scheme.specs.Passed.{lengths-same, below-fits}
 use Rattle.circuit.specs.declared.Gate.{Gate}
 use Rattle.circuit.specs.Records.{length-boundsOf}
-use Rattle.circuit.specs.Core.{gate, records, uneven, planCoreRows, planCoreAnswer, planCoreBounds}
+use Rattle.circuit.specs.Core.{records, uneven, planCoreRows, planCoreAnswer, planCoreBounds}
 use Rattle.gatfile.specs.File.{fileParams, fileInputs, fileGateCount, fileGate, fileGates, fileInputBounds, fileBounds, fileGateRows, filePlace}
 use Rattle.gatfile.specs.Order.{HeadRight, gateAnswer}
 
--- the kinds, the lefts and the rights of the gates
-unfoldable pub fileKinds : List ℕ → List ℕ
-fileKinds file = tabulate (fileGateCount file) (λ g. fileGate file g .kind)
+-- one part of each gate, and so the kinds, the lefts and the rights
+unfoldable pub fileColumn : List ℕ → (Gate → ℕ) → List ℕ
+fileColumn file part = tabulate (fileGateCount file) (λ g. part (fileGate file g))
 
-unfoldable pub fileLefts : List ℕ → List ℕ
-fileLefts file = tabulate (fileGateCount file) (λ g. fileGate file g .left)
+abbrev pub fileKinds : List ℕ → List ℕ
+fileKinds file = fileColumn file (λ g. g .kind)
 
-unfoldable pub fileRights : List ℕ → List ℕ
-fileRights file = tabulate (fileGateCount file) (λ g. fileGate file g .right)
+abbrev pub fileLefts : List ℕ → List ℕ
+fileLefts file = fileColumn file (λ g. g .left)
+
+abbrev pub fileRights : List ℕ → List ℕ
+fileRights file = fileColumn file (λ g. g .right)
 
 records-tabulate : (n : ℕ) (f : ℕ → Gate) → records (tabulate n (λ i. f i .kind)) (tabulate n (λ i. f i .left)) (tabulate n (λ i. f i .right)) ≡ tabulate n f
 unfolding records tabulate
 records-tabulate zero f = refl
 records-tabulate (suc n) f = ap (λ (gs : List Gate). f zero ∷ gs) (records-tabulate n (λ i. f (suc i)))
 
--- the bounds of all wires where 9 and 10 let the file pass, and otherwise the table as it was
+-- what planning leaves in a table: the bounds of all wires where 9 and 10 let the file pass, and otherwise those of the inputs before what was found
 unfoldable pub settledBounds : List ℕ → List ℕ → List ℕ
 settledBounds file table = doneOr (firstOf (fileGateRows file)) (fileBounds file) (fileInputBounds file ++ drop (fileInputs file) table)
 
 module _ (file : List ℕ) where
   pub records-file : records (fileKinds file) (fileLefts file) (fileRights file) ≡ fileGates file
-  unfolding fileKinds fileLefts fileRights fileGates
+  unfolding fileColumn fileGates
   records-file = records-tabulate (fileGateCount file) (fileGate file)
 
-  pub length-kinds : length (fileKinds file) ≡ fileGateCount file
-  unfolding fileKinds
-  length-kinds = length-tabulate (fileGateCount file) (λ g. fileGate file g .kind)
+  pub length-column : (part : Gate → ℕ) → length (fileColumn file part) ≡ fileGateCount file
+  unfolding fileColumn
+  length-column part = length-tabulate (fileGateCount file) (λ g. part (fileGate file g))
 
-  pub length-lefts : length (fileLefts file) ≡ fileGateCount file
-  unfolding fileLefts
-  length-lefts = length-tabulate (fileGateCount file) (λ g. fileGate file g .left)
-
-  pub length-rights : length (fileRights file) ≡ fileGateCount file
-  unfolding fileRights
-  length-rights = length-tabulate (fileGateCount file) (λ g. fileGate file g .right)
+  pub getD-column : (part : Gate → ℕ) (g : ℕ) → g < fileGateCount file → getD (fileColumn file part) g 0 ≡ part (fileGate file g)
+  unfolding fileColumn
+  getD-column part g h = getD-tabulate (fileGateCount file) (λ g. part (fileGate file g)) g 0 h
 
   pub length-inputs : length (fileInputBounds file) ≡ fileInputs file
   unfolding fileInputBounds
@@ -72,13 +71,13 @@ module _ (file : List ℕ) where
   module _ (r : HeadRight file) (Bs : List ℕ) (front : take (fileInputs file) Bs ≡ fileInputBounds file) (room : length Bs ≡ fileInputs file + fileGateCount file) where
     even : uneven (fileKinds file) (fileLefts file) (fileRights file) ≡ false
     unfolding uneven
-    even = or-neither (lengths-same _ _ (length-lefts ∙ sym length-kinds)) (lengths-same _ _ (length-rights ∙ sym length-kinds))
+    even = or-neither (lengths-same _ _ (length-column _ ∙ sym (length-column _))) (lengths-same _ _ (length-column _ ∙ sym (length-column _)))
 
     -- the rows of planning up to 8 do not apply, and so its number is that of the gates
     number : firstOf (planCoreRows (fileParams file) (fileInputs file) (fileKinds file) (fileLefts file) (fileRights file) Bs) ≡ firstOf (fileGateRows file)
     unfolding planCoreRows fileGateRows firstOf
     number =
-        rw (r .ranges, length-kinds, r .counts, even, lengths-same _ _ room, front, inputs-fit r, records-file)
+        rw (r .ranges, length-column, r .counts, even, lengths-same _ _ room, front, inputs-fit r, records-file)
 
     pub settled-answer : planCoreAnswer (fileParams file) (fileInputs file) (fileKinds file) (fileLefts file) (fileRights file) Bs ≡ gateAnswer file
     unfolding planCoreAnswer gateAnswer filePlace

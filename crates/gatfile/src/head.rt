@@ -1,11 +1,10 @@
 // The head of a file, its first 23 bytes, and the refusals before those of the gates.
 ghost use mathlib.Core.Path.{_≡_};
-ghost use Prim.Native.Nat.{_≤_, _<_};
+ghost use Prim.Native.Nat.{_+_, _≤_, _<_};
 ghost use lib.ListN.{length};
 ghost use Rattle.refusal.specs.First.{firstOf};
 ghost use Rattle.gatfile.specs.File.{fileParams, fileInputs, fileGateCount, isKnown, headRows};
 use crate::field::four;
-use crate::field::one;
 use crate::field::two;
 use circuit::checks::are_bad_counts;
 use refusal::Params;
@@ -50,6 +49,14 @@ pub fn gate_count(file: &[u8]) -> usize
     ensures { λ r. ⌜ (r ≡ fileGateCount (now (file .entry))) × (r < 65536) ⌝ }
 {
     two(file, 21) as usize
+}
+
+// How many wires the file has: its inputs, and one for each gate.
+pub fn wire_count(file: &[u8]) -> usize
+    requires { ⌜ 23 ≤ length (now file) ⌝ }
+    ensures { λ r. ⌜ (r ≡ fileInputs (now (file .entry)) + fileGateCount (now (file .entry))) × (r < 131072) ⌝ }
+{
+    inputs(file) as usize + gate_count(file)
 }
 
 // The number of the head: 12 under 23 bytes, then 11, 1, 2, and 12 where the length is not that of the gates; or 0.

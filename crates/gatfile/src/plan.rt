@@ -6,9 +6,8 @@ ghost use lib.ListN.{length};
 ghost use Rattle.gatfile.specs.File.{fourBytes, checkAnswer, planFileAnswer, planFileBuffer};
 ghost use Rattle.gatfile.specs.Order.{planRefusal};
 ghost use Rattle.gatfile.specs.Writing.{Written};
-use crate::head::gate_count;
 use crate::head::head_number;
-use crate::head::inputs;
+use crate::head::wire_count;
 use crate::settle::WIRES;
 use crate::settle::checked;
 use crate::settle::settle;
@@ -56,7 +55,7 @@ fn planned(file: &[u8], bounds: &mut [u8]) -> Refusal
     if number != 0 {
         return Refusal { number, place: 0 };
     }
-    let wires = inputs(file) as usize + gate_count(file);
+    let wires = wire_count(file);
     if bounds.len() != 4 * wires {
         return Refusal {
             number: 3,

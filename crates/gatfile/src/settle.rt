@@ -13,6 +13,7 @@ use crate::head::gate_count;
 use crate::head::head_number;
 use crate::head::inputs;
 use crate::head::params;
+use crate::head::wire_count;
 use refusal::Refusal;
 
 // The most gates of a circuit.
@@ -100,6 +101,6 @@ pub fn checked(file: &[u8], table: &mut [u32]) -> Refusal
     if number != 0 {
         return Refusal { number, place: 0 };
     }
-    let wires = inputs(file) as usize + gate_count(file);
+    let wires = wire_count(file);
     settle(file, &mut table[0..wires])
 }

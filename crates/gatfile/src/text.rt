@@ -8,9 +8,8 @@ ghost use Rattle.gatfile.specs.File.{fileBounds, headRows};
 ghost use Rattle.gatfile.specs.Text.{wireLines, okLine, textAnswer, textBuffer};
 ghost use Rattle.gatfile.specs.Text.{text as fileText};
 ghost use Rattle.gatfile.specs.Writing.{Written};
-use crate::head::gate_count;
-use crate::head::inputs;
 use crate::head::params;
+use crate::head::wire_count;
 use crate::line::put_pair;
 use crate::line::put_wire;
 use crate::settle::WIRES;
@@ -18,7 +17,7 @@ use crate::settle::checked;
 use crate::write::put;
 
 // Room for any text: 20 bytes for each of 5,120 wires, and 32 for the last line.
-const ROOM: usize = 102432;
+pub const ROOM: usize = 102432;
 
 // The lines of all wires.
 fn put_wires(file: &[u8], bounds: &[u32], out: &mut [u8]) -> usize
@@ -55,7 +54,7 @@ fn put_text(file: &[u8], table: &mut [u32], out: &mut [u8]) -> usize
     if r.number != 0 {
         return put_pair(b"REFUSED ", r.number as u64, r.place, 0, out);
     }
-    let wires = inputs(file) as usize + gate_count(file);
+    let wires = wire_count(file);
     put_bounds(file, &table[0..wires], out)
 }
 

@@ -1,8 +1,8 @@
 -- `render` puts the text at the front, for which there is room (`text-front`).
-use mathlib.Core.Path.{_≡_, sym, ap, _∙_}
+use mathlib.Core.Path.{sym}
 use Prim.Native.Nat.{_≤_}
 use native.Mathlib.Omega.{arith}
-use lib.ListN.{length, take}
+use lib.ListN.{length}
 use lib.Seq.{length-take-le}
 use Rattle.gatfile.specs.Lines.{text-front}
 use borrow.Author.Needs.{needs}

@@ -1,5 +1,4 @@
 -- `field::two` is the first byte and then the second (`field-parts`).
-use mathlib.Core.Path.{sym}
 use native.Mathlib.Omega.{arith}
 use Rattle.gatfile.specs.Fields.{field-parts}
 use borrow.Author.Needs.{needs}

@@ -1,11 +1,11 @@
 -- `line::put_kind` writes the word of the wire, by the laws of `kindWord`.
-use mathlib.Core.Path.{_≡_, refl, sym, ap, _∙_}
+use mathlib.Core.Path.{_≡_, sym, ap, _∙_}
 use mathlib.Core.List.{List, [], _∷_, _++_}
 use Prim.Native.Nat.{ℕ, _+_, _*_, _-_, _≤_, _<_}
 use native.Mathlib.Omega.{arith}
 use Rattle.gatfile.specs.File.{field, fileInputs, fileGateCount}
 use Rattle.gatfile.specs.Text.{wordIN, wordXOR, wordAND, wordNOT}
-use Rattle.gatfile.specs.Order.{HeadRight, head-right}
+use Rattle.gatfile.specs.Order.{head-right}
 use Rattle.gatfile.specs.Lines.{kind-input, kind-xor, kind-and, kind-not}
 use Rattle.gatfile.specs.Writing.{written-as}
 use borrow.Author.Needs.{needs}

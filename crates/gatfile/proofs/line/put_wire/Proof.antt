@@ -4,7 +4,7 @@ use native.Mathlib.Omega.{arith}
 use Prim.Native.Nat.{_≤_}
 use lib.ListN.{length}
 use Rattle.gatfile.specs.Text.{digits, kindWord}
-use Rattle.gatfile.specs.Order.{HeadRight, head-right}
+use Rattle.gatfile.specs.Order.{head-right}
 use Rattle.gatfile.specs.Lines.{wire-fields, kind-few, wire-few, word-few, length-field}
 use Rattle.gatfile.specs.Writing.{written-then, written-as, written-kept}
 use borrow.Author.Needs.{needs}
@@ -12,7 +12,7 @@ use Rattle.gatfile.proofs.line.put_wire.Statement.{statement}
 use Rattle.gatfile.proofs.line.put_wire.Tie as tie
 
 few : (s : tie.Start) → length (digits (s .args .wire)) ≤ 4
-few s = let r = head-right _ (s .pre .0) in wire-few (s .args .wire) (omega (arith, s .pre .1, r .inputs-high, r .gates-high))
+few s = wire-few (s .args .wire) (omega (arith, s .pre .1, head-right _ (s .pre .0) .wires-high))
 
 put-field-requires : tie.Need-put-field-requires
 put-field-requires c κs =

@@ -1,5 +1,5 @@
 -- `plan::check` is the check's number and place as one number.
-use mathlib.Core.Path.{_≡_, sym, _∙_}
+use mathlib.Core.Path.{_∙_}
 use Rattle.gatfile.specs.File.{checkAnswer}
 use Rattle.gatfile.specs.Order.{checkRefusal, check-place}
 use borrow.Author.Needs.{needs}

@@ -1,5 +1,5 @@
 -- `plan::plan` is planning's number and place as one number.
-use mathlib.Core.Path.{_≡_, sym, _∙_}
+use mathlib.Core.Path.{_∙_}
 use Rattle.gatfile.specs.File.{planFileAnswer}
 use Rattle.gatfile.specs.Order.{planRefusal, plan-place}
 use borrow.Author.Needs.{needs}

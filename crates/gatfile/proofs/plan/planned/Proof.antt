@@ -1,6 +1,5 @@
 -- `plan::planned` answers and writes as planning on a file is defined: each return is one of the four ends of `Ends`.
-use Rattle.gatfile.specs.Settled.{settled-all, length-bounds}
-use mathlib.Core.Path.{_≡_, refl, sym, ap, ap₂, _∙_}
+use mathlib.Core.Path.{_≡_, sym, ap, _∙_}
 use mathlib.Core.List.{flatMap}
 use Prim.Native.Nat.{_+_, _*_}
 use native.Mathlib.Omega.{arith}
@@ -8,6 +7,7 @@ use lib.ListN.{length}
 use Rattle.whole.specs.Lists.{put-first, put-holds}
 use Rattle.gatfile.specs.File.{fileInputs, fileGateCount, fileBounds, fourBytes}
 use Rattle.gatfile.specs.Order.{HeadRight, head-right}
+use Rattle.gatfile.specs.Settled.{settled-all, length-bounds}
 use Rattle.gatfile.proofs.Ends.{planned-headed, planned-short, planned-refused, planned-done}
 use borrow.Author.Needs.{needs}
 use Rattle.gatfile.proofs.plan.planned.Statement.{statement}
@@ -23,27 +23,14 @@ returns c = planned-headed _ _ (c .before .head-number .ensures) (c .if1 .taken)
 ready : (c : tie.Else1) → HeadRight (c .before .before .before .before .args .file .now)
 ready c = head-right _ (sym (c .before .head-number .ensures) ∙ c .if1 .left)
 
-inputs-requires : tie.Need-inputs-requires
-inputs-requires c κs = ready c .enough
-
-cast-wires : tie.Need-cast-wires
-cast-wires c = search needs
-
-gate-count-requires : tie.Need-gate-count-requires
-gate-count-requires c κs = ready (c .before) .enough
-
-add-wires : tie.Need-add-wires
-add-wires c = search needs
+wire-count-requires : tie.Need-wire-count-requires
+wire-count-requires c κs = ready c .enough
 
 mul-if2 : tie.Need-mul-if2
 mul-if2 c = search needs
 
--- the number of wires
-wires : (c : tie.After-gate-count) → (let f = c .before .before .before .before .before .before .args .file .now in c .before .inputs .result + c .gate-count .result ≡ fileInputs f + fileGateCount f)
-wires c = ap₂ _+_ (c .before .inputs .ensures .0) (c .gate-count .ensures .0)
-
 returns-2 : tie.Need-returns-2
-returns-2 c = planned-short _ _ (ready (c .before .before .before)) (λ e. c .if2 .taken (e ∙ ap (λ n. 4 * n) (sym (wires (c .before)))))
+returns-2 c = planned-short _ _ (ready (c .before .before)) (λ e. c .if2 .taken (e ∙ ap (λ n. 4 * n) (sym (c .before .wire-count .ensures .0))))
 
 sub-settle : tie.Need-sub-settle
 sub-settle c = search needs
@@ -52,21 +39,19 @@ part-table-start : tie.Need-part-table-start
 part-table-start c = search needs
 
 part-table-end : tie.Need-part-table-end
-part-table-end c =
-    let r = ready (c .before .before .before) in
-    omega (arith, wires (c .before), r .inputs-high, r .gates-high)
+part-table-end c = omega (arith, c .before .wire-count .ensures .0, ready (c .before .before) .wires-high)
 
 settle-requires : tie.Need-settle-requires
 settle-requires c κs = search needs
 
 -- past the length
-long : (c : tie.Else2) → (let a = c .before .before .before .before .before .before .before .args in length (a .bounds .now) ≡ 4 * (fileInputs (a .file .now) + fileGateCount (a .file .now)))
-long c = c .if2 .left ∙ ap (λ n. 4 * n) (wires (c .before))
+long : (c : tie.Else2) → (let a = c .before .before .before .before .before .before .args in length (a .bounds .now) ≡ 4 * (fileInputs (a .file .now) + fileGateCount (a .file .now)))
+long c = c .if2 .left ∙ ap (λ n. 4 * n) (c .before .wire-count .ensures .0)
 
 returns-3 : tie.Need-returns-3
 returns-3 c =
     let e = c .before .before .before .before .before in
-    planned-refused _ _ (ready (e .before .before .before)) (long e) (c .before .before .before .settle .ensures .0) (c .if3 .taken)
+    planned-refused _ _ (ready (e .before .before)) (long e) (c .before .before .before .settle .ensures .0) (c .if3 .taken)
 
 sub-write-bounds : tie.Need-sub-write-bounds
 sub-write-bounds c = search needs
@@ -75,11 +60,11 @@ part-write-bounds-start : tie.Need-part-write-bounds-start
 part-write-bounds-start c = search needs
 
 -- the table holds the bounds of all wires
-filled : (c : tie.Else3) → c .before .before .before .settle .last .1 .0 ≡ fileBounds (c .before .before .before .before .before .before .before .before .before .before .before .before .args .file .now)
+filled : (c : tie.Else3) → c .before .before .before .settle .last .1 .0 ≡ fileBounds (c .before .before .before .before .before .before .before .before .before .before .before .args .file .now)
 filled c = let s = c .before .before .before in settled-all _ _ (s .settle .ensures .0) (c .if3 .left) (s .settle .ensures .1)
 
-filled-long : (c : tie.Else3) → (let s = c .before .before .before in let g = s .before .before .before in length (s .settle .last .1 .0) ≡ g .before .inputs .result + g .gate-count .result)
-filled-long c = ap length (filled c) ∙ length-bounds _ ∙ sym (wires (c .before .before .before .before .before .before))
+filled-long : (c : tie.Else3) → length (c .before .before .before .settle .last .1 .0) ≡ c .before .before .before .before .before .before .wire-count .result
+filled-long c = ap length (filled c) ∙ length-bounds _ ∙ sym (c .before .before .before .before .before .before .wire-count .ensures .0)
 
 part-write-bounds-end : tie.Need-part-write-bounds-end
 part-write-bounds-end c = put-holds _ (c .before .before .before .before .settle .last .1 .0) _ (filled-long (c .before))
@@ -94,7 +79,7 @@ returns-4 : tie.Need-returns-4
 returns-4 c =
     let t = c .before .before .before .before .before .before in
     let e = t .before .before .before .before .before in
-    planned-done _ _ (ready (e .before .before .before)) (long e) (t .before .before .before .settle .ensures .0) (t .if3 .left)
+    planned-done _ _ (ready (e .before .before)) (long e) (t .before .before .before .settle .ensures .0) (t .if3 .left)
     (c .before .before .write-bounds .ensures ∙ ap (flatMap fourBytes) (put-first _ _ _ (filled-long t) ∙ filled t))
 
 pub planned-spec : {M : Type 1} → statement M
@@ -103,10 +88,7 @@ planned-spec =
     (tie.spec
     head-number-requires
     returns
-    inputs-requires
-    cast-wires
-    gate-count-requires
-    add-wires
+    wire-count-requires
     mul-if2
     returns-2
     sub-settle

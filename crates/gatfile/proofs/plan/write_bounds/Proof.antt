@@ -1,6 +1,6 @@
 -- `plan::write_bounds` writes four bytes for each bound. The invariant: those of the bounds passed are written from the front (`PartsWritten`).
 use mathlib.Core.Path.{_≡_, refl}
-use Prim.Native.Nat.{_+_, _*_, _-_}
+use Prim.Native.Nat.{_*_, _-_}
 use native.Mathlib.Omega.{arith}
 use lib.ListN.{length}
 use Rattle.gatfile.specs.File.{fourBytes}

@@ -1,10 +1,8 @@
--- `settle::checked` answers the head's number (`check-headed`), or what the gates' numbers and place are (`check-settled`).
-use mathlib.Core.Path.{_≡_, sym, ap, ap₂, _∙_}
-use Prim.Native.Nat.{_+_}
+-- `settle::checked` answers the head's number (`check-headed`), or what 9, 10 and the place are (`check-settled`).
+use mathlib.Core.Path.{sym, ap, _∙_}
 use native.Mathlib.Omega.{arith}
-use lib.ListN.{length, take}
+use lib.ListN.{length}
 use lib.Seq.{take-at}
-use Rattle.gatfile.specs.File.{fileInputs, fileGateCount}
 use Rattle.gatfile.specs.Order.{HeadRight, head-right, check-headed, check-settled}
 use Rattle.gatfile.specs.Settled.{settled-all, length-bounds}
 use borrow.Author.Needs.{needs}
@@ -21,17 +19,8 @@ returns c = (check-headed _ (c .before .head-number .ensures) (c .if1 .taken), �
 ready : (c : tie.Else1) → HeadRight (c .before .before .before .before .args .file .now)
 ready c = head-right _ (sym (c .before .head-number .ensures) ∙ c .if1 .left)
 
-inputs-requires : tie.Need-inputs-requires
-inputs-requires c κs = ready c .enough
-
-cast-wires : tie.Need-cast-wires
-cast-wires c = search needs
-
-gate-count-requires : tie.Need-gate-count-requires
-gate-count-requires c κs = ready (c .before) .enough
-
-add-wires : tie.Need-add-wires
-add-wires c = search needs
+wire-count-requires : tie.Need-wire-count-requires
+wire-count-requires c κs = ready c .enough
 
 sub-settle : tie.Need-sub-settle
 sub-settle c = search needs
@@ -40,9 +29,7 @@ part-settle-start : tie.Need-part-settle-start
 part-settle-start c = search needs
 
 part-settle-end : tie.Need-part-settle-end
-part-settle-end c =
-    let r = ready (c .before .before) in
-    omega (arith, c .before .inputs .ensures .0, c .gate-count .ensures .0, r .inputs-high, r .gates-high)
+part-settle-end c = omega (arith, c .wire-count .ensures .0, ready (c .before) .wires-high)
 
 settle-requires : tie.Need-settle-requires
 settle-requires c κs = search needs
@@ -53,7 +40,7 @@ same-length c = search needs
 returns-2 : tie.Need-returns-2
 returns-2 c =
     let s = c .before .before in (
-      s .settle .ensures .0 ∙ check-settled _ (ready (s .before .before .before .before)),
+      s .settle .ensures .0 ∙ check-settled _ (ready (s .before .before .before)),
       λ z.
           let e = settled-all _ _ (s .settle .ensures .0) z (s .settle .ensures .1) in
           take-at (s .settle .last .1 .0) _ _ (ap length e ∙ length-bounds _) ∙ e,
@@ -65,10 +52,7 @@ checked-spec =
     (tie.spec
     head-number-requires
     returns
-    inputs-requires
-    cast-wires
-    gate-count-requires
-    add-wires
+    wire-count-requires
     sub-settle
     part-settle-start
     part-settle-end

@@ -1,5 +1,5 @@
 -- `settle::read_gates` lists the gates. The invariant is `Listed`, whose laws are in `Listing`.
-use Prim.Native.Nat.{_-_, _<_, _+_, _≤_}
+use Prim.Native.Nat.{_-_, _<_}
 use native.Mathlib.Omega.{arith}
 use lib.ListN.{length}
 use Rattle.whole.specs.Lists.{fill-end}

@@ -1,10 +1,10 @@
 -- `text::put_bounds` writes the lines of all wires, and behind them the last line (`ok-line`).
-use mathlib.Core.Path.{_≡_, ap, _∙_}
+use mathlib.Core.Path.{ap, _∙_}
 use Prim.Native.Nat.{_-_, _≤_}
 use native.Mathlib.Omega.{arith}
 use lib.ListN.{length}
-use Rattle.refusal.specs.Parameters.{InRange}
-use Rattle.gatfile.specs.Order.{HeadRight, head-right}
+use Rattle.gatfile.specs.Text.{wordOK}
+use Rattle.gatfile.specs.Order.{head-right}
 use Rattle.gatfile.specs.Settled.{length-bounds}
 use Rattle.gatfile.specs.Lines.{ok-line}
 use Rattle.gatfile.specs.Writing.{written-then, written-as, written-kept}
@@ -63,6 +63,7 @@ same-length : tie.Need-same-length
 same-length c = search needs
 
 returns : tie.Need-returns
+unfolding wordOK
 returns c =
     let s = c .before .before .before .before .before .before .before .before .before .before .before .before .before .before .before in
     written-then (c .before .before .before .before .before .before .before .before .before .before .put-wires .ensures .0) (written-as (ok-line _ (s .pre .1) (c .before .before .before .before .before .before .before .params .ensures)) (c .before .before .put-pair .ensures))

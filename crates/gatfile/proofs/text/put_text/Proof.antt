@@ -1,11 +1,12 @@
 -- `text::put_text` writes the last line of a refusal, or all lines, as `text` has it.
-use mathlib.Core.Path.{_≡_, sym, ap, ap₂, _∙_}
-use Prim.Native.Nat.{_+_, _<_}
+use mathlib.Core.Path.{_≡_}
+use Prim.Native.Nat.{_<_}
 use native.Mathlib.Omega.{arith}
 use native.Mathlib.Nat.{sub-zero}
 use Rattle.refusal.specs.First.{firstOf}
-use Rattle.gatfile.specs.File.{fileInputs, fileGateCount, headRows}
-use Rattle.gatfile.specs.Order.{HeadRight, head-right, checkRefusal, check-passes, check-small, check-place}
+use Rattle.gatfile.specs.File.{headRows}
+use Rattle.gatfile.specs.Text.{wordREFUSED}
+use Rattle.gatfile.specs.Order.{head-right, checkRefusal, check-passes, check-small, check-place}
 use Rattle.gatfile.specs.Lines.{text-refused, text-done}
 use Rattle.gatfile.specs.Writing.{written-as}
 use borrow.Author.Needs.{needs}
@@ -37,22 +38,14 @@ same-length-2 : tie.Need-same-length-2
 same-length-2 c = search needs
 
 returns : tie.Need-returns
+unfolding wordREFUSED
 returns c = written-as (text-refused _ (c .before .before .before .before .before .before .before .before .before .before .checked .ensures .0) (c .before .before .before .before .before .before .if1 .taken)) (c .before .before .put-pair .ensures)
 
 passes : (c : tie.Else1) → firstOf (headRows (c .before .before .before .before .before .before .before .before .before .args .file .now)) ≡ 0
 passes c = check-passes _ (c .before .before .before .before .checked .ensures .0) (c .if1 .left)
 
-inputs-requires : tie.Need-inputs-requires
-inputs-requires c κs = head-right _ (passes c) .enough
-
-cast-wires : tie.Need-cast-wires
-cast-wires c = search needs
-
-gate-count-requires : tie.Need-gate-count-requires
-gate-count-requires c κs = head-right _ (passes (c .before)) .enough
-
-add-wires : tie.Need-add-wires
-add-wires c = search needs
+wire-count-requires : tie.Need-wire-count-requires
+wire-count-requires c κs = head-right _ (passes c) .enough
 
 sub-put-bounds : tie.Need-sub-put-bounds
 sub-put-bounds c = search needs
@@ -61,16 +54,13 @@ part-put-bounds-start : tie.Need-part-put-bounds-start
 part-put-bounds-start c = search needs
 
 part-put-bounds-end : tie.Need-part-put-bounds-end
-part-put-bounds-end c =
-    let r = head-right _ (passes (c .before .before .before)) in
-    let s = c .before .before .before .before .before .before .before .before .before .before .before .before in
-    omega (arith, c .before .before .inputs .ensures .0, c .before .gate-count .ensures .0, r .inputs-high, r .gates-high, s .pre .0, c .before .before .before .before .before .before .before .checked .kept .1 .0)
+part-put-bounds-end c = omega (arith, c .before .wire-count .ensures .0, head-right _ (passes (c .before .before)) .wires-high, c .before .before .before .before .before .before .before .before .before .before .before .pre .0, c .before .before .before .before .before .before .checked .kept .1 .0)
 
 put-bounds-requires : tie.Need-put-bounds-requires
 put-bounds-requires c κs =
-    let s = c .before .before .before .before .before .before .before .before .before .before .before .before .before .before in
-    let e = c .before .before .before .before .before in
-    (passes e, simp (sub-zero, c .before .before .before .before .inputs .ensures .0, c .before .before .before .gate-count .ensures .0) (e .before .before .before .before .checked .ensures .1 (e .if1 .left)), s .pre .1)
+    let s = c .before .before .before .before .before .before .before .before .before .before .before .before .before in
+    let e = c .before .before .before .before in
+    (passes e, simp (sub-zero, c .before .before .before .wire-count .ensures .0) (e .before .before .before .before .checked .ensures .1 (e .if1 .left)), s .pre .1)
 
 same-length-3 : tie.Need-same-length-3
 same-length-3 c = search needs
@@ -79,7 +69,7 @@ same-length-4 : tie.Need-same-length-4
 same-length-4 c = search needs
 
 returns-2 : tie.Need-returns-2
-returns-2 c = written-as (text-done _ (c .before .before .before .before .before .before .before .before .before .before .before .before .checked .ensures .0) (c .before .before .before .before .before .before .before .before .if1 .left)) (c .before .before .put-bounds .ensures)
+returns-2 c = written-as (text-done _ (c .before .before .before .before .before .before .before .before .before .before .before .checked .ensures .0) (c .before .before .before .before .before .before .before .if1 .left)) (c .before .before .put-bounds .ensures)
 
 pub put-text-spec : {M : Type 1} → statement M
 put-text-spec =
@@ -92,10 +82,7 @@ put-text-spec =
     same-length
     same-length-2
     returns
-    inputs-requires
-    cast-wires
-    gate-count-requires
-    add-wires
+    wire-count-requires
     sub-put-bounds
     part-put-bounds-start
     part-put-bounds-end

@@ -1,11 +1,11 @@
 -- `text::put_wires` writes a line for each wire. The invariant: the lines of the wires passed are written from the front (`PartsWritten`), each of at most 20 bytes.
 use mathlib.Core.Path.{_≡_, ap, _∙_}
-use Prim.Native.Nat.{_+_, _*_, _-_, _≤_, _<_}
+use Prim.Native.Nat.{_+_, _*_, _-_, _≤_}
 use native.Mathlib.Omega.{arith}
 use lib.ListN.{length}
 use Rattle.whole.specs.Lists.{length-tabulate}
 use Rattle.gatfile.specs.File.{fileInputs, fileGateCount}
-use Rattle.gatfile.specs.Order.{HeadRight, head-right}
+use Rattle.gatfile.specs.Order.{head-right}
 use Rattle.gatfile.specs.Settled.{length-bounds}
 use Rattle.gatfile.specs.Lines.{lineOf, fileWires, wire-lines, line-at}
 use Rattle.gatfile.specs.Writing.{PartsWritten, parts-start, parts-step, parts-end, written-as, written-kept}
@@ -27,19 +27,16 @@ mul-put-wire c = omega arith
 shared-slice-read-put-wire : tie.Need-shared-slice-read-put-wire Inv-loop μ-loop
 shared-slice-read-put-wire c = omega arith
 
--- there are as many bounds as wires, and so at most 5,120
+-- there are as many bounds as wires
 many : (s : tie.Start Inv-loop μ-loop) → (let a = s .args in length (a .bounds .now) ≡ fileInputs (a .file .now) + fileGateCount (a .file .now))
 many s = ap length (s .pre .1) ∙ length-bounds _
-
-few : (s : tie.Start Inv-loop μ-loop) → (let f = s .args .file .now in fileInputs f + fileGateCount f ≤ 5120)
-few s = let r = head-right _ (s .pre .0) in omega (arith, r .inputs-high, r .gates-high)
 
 put-wire-requires : tie.Need-put-wire-requires Inv-loop μ-loop
 put-wire-requires c κs =
     let l = c .before .before .before in
     let s = c .before .before .before .before .before .before .before in
     let more = c .before .before .loop-test .taken in
-    (s .pre .0, omega (arith, many s, more), omega (arith, many s, more, few s, s .pre .2, l .loop .inv .1, written-kept (l .loop .inv .0 .so-far)))
+    (s .pre .0, omega (arith, many s, more), omega (arith, many s, more, head-right _ (s .pre .0) .wires-high, s .pre .2, l .loop .inv .1, written-kept (l .loop .inv .0 .so-far)))
 
 add-wire : tie.Need-add-wire Inv-loop μ-loop
 add-wire c = omega arith
@@ -63,7 +60,7 @@ returns c =
     let s = c .before .before .before .before .before in
     let i = c .before .loop .inv in (
       written-as (wire-lines _) (parts-end (i .0) (omega (arith, c .loop-test .left, many s, length-tabulate (fileInputs (s .args .file .now) + fileGateCount (s .args .file .now)) (λ wire. wire)))),
-      omega (arith, i .1, i .0 .within, few s, length-tabulate (fileInputs (s .args .file .now) + fileGateCount (s .args .file .now)) (λ wire. wire)),
+      omega (arith, i .1, i .0 .within, head-right _ (s .pre .0) .wires-high, length-tabulate (fileInputs (s .args .file .now) + fileGateCount (s .args .file .now)) (λ wire. wire)),
     )
 
 pub put-wires-spec : {M : Type 1} → statement M
