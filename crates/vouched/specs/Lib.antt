@@ -1,7 +1,9 @@
+pub mod Promises
+pub mod Demand3
 pub mod Three
 pub mod Sound
 pub mod Accepted
-pub mod Demand3
+pub mod Held
 pub mod Exact
 pub mod Witness
 pub mod Unique

@@ -24,9 +24,10 @@ use Rattle.scheme.specs.Passed.{errors-within}
 use Rattle.scheme.specs.Figures.{−, pair, four}
 use Rattle.noise.specs.Built.{MadeFor, made→built}
 use Rattle.circuit.specs.declared.Gate.{Gate}
-use Rattle.circuit.specs.Circuits.{byKind, gateBound, gateWire, gateBit, wrongGate, run, wrongGates, boundsOf, overGates, badCounts, gateRows, placeOf, planRows, planAnswer, evaluateRows, wiresOf, evaluateWires, evaluateBounds, evaluateScratch, bitsOf}
+use Rattle.circuit.specs.Circuits.{byKind, gateBound, gateWire, gateBit, wrongGate, run, wrongGates, boundsOf, overGates, badCounts, gateRows, placeOf, planRows, planAnswer, evaluateRows, evaluateAnswer, wiresOf, evaluateWires, evaluateBounds, evaluateScratch, bitsOf}
 use Rattle.circuit.specs.Core.{gate}
-use Rattle.vouched.specs.Demand3.{wireAt, Premises, Vouched, demand-3}
+use Rattle.vouched.specs.Demand3.{wireAt, Premises, Vouched}
+use Rattle.vouched.specs.Held.{demand-3}
 
 abbrev p : Params
 p = params 2 64 2 1 1
@@ -93,6 +94,10 @@ pub done : firstOf (evaluateRows p 2 gates wires Bs W (length scratch)) ≡ 0
 unfolding firstOf someTrue all badParams inRange badCounts differs outside isResidue fits overBudget byKind gateBound XOR-bound AND-bound NOT-bound wrongGate run wrongGates boundsOf overGates gateRows evaluateRows
 done = refl
 
+pub answered : evaluateAnswer p 2 gates wires Bs W (length scratch) .number ≡ 0
+unfolding evaluateAnswer
+answered = done
+
 -- what it leaves
 pub wires-left : evaluateWires p 2 gates wires Bs W scratch
     ≡ pos 30 ∷ pos 3 ∷ − 13 ∷ − 20 ∷ pos 19 ∷ pos 11 ∷ − 13 ∷ pos 11 ∷ pos 17 ∷ pos 14 ∷ []
@@ -110,7 +115,8 @@ bits-made = refl
 -- so the AND is vouched for: (19,11) has a true noise of at most 9 for the bit 1, and decrypts to it
 pub and-vouched : Vouched p s (pair (pos 19) (pos 11)) 1 9
 and-vouched =
-    rw (wires-left, bits-made, bounds-left) at (demand-3 p 2 gates wires Bs W scratch s bits premises done 2 (omega arith))
+    rw (wires-left, bits-made, bounds-left) at
+    (demand-3 p 2 gates wires Bs W scratch s bits _ _ _ _ premises (refl, refl, refl, refl) answered 2 (omega arith))
 
 pub scratch-left : evaluateScratch p 2 gates wires Bs W scratch ≡ four (pos 0) (pos 0) (pos 0) (pos 0)
 unfolding evaluateScratch
