@@ -3,6 +3,7 @@
 
     python3 examples/make.py           writes them
     python3 examples/make.py --check   fails where a file is another than the one it would write, and where the allowance rule misjudges a claim
+    python3 examples/make.py --limits FOLDER   writes files at the limits and their texts, which are too large to be kept
 
 The texts are the independent program's (oracle/).
 """
@@ -130,6 +131,12 @@ def files():
     }
 
 
+def limits():
+    """Files at the limits, by name, too large to be kept: the one with the longest text, and files longer than any valid one."""
+    longest = file_of((2, 1048576, 1, 262143, 0), 1024, [(NOT, 0, 0)] * 4096)
+    return {"longest": longest, "one-byte-more": longest + b"\0", "ten-thousand-more": longest + bytes(10000), "many-bytes": bytes(70000)}
+
+
 def names():
     """The wires of the allowance rule, one line each."""
     c = allowance()
@@ -171,7 +178,17 @@ def contents():
     return made
 
 
+def write_limits(folder):
+    for name, data in limits().items():
+        (folder / (name + ".gat")).write_bytes(data)
+        (folder / (name + ".txt")).write_bytes(printed(data).encode())
+    assert len(printed(limits()["longest"])) == 79803
+
+
 def main():
+    if sys.argv[1:2] == ["--limits"]:
+        write_limits(pathlib.Path(sys.argv[2]))
+        return 0
     made = contents()
     if sys.argv[1:] == ["--check"]:
         others = {path.name for path in HERE.iterdir() if path.suffix in (".gat", ".txt", ".names")} ^ set(made)
