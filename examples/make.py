@@ -1,5 +1,6 @@
 #!/usr/bin/env python3
-"""Makes the circuit files of this folder, beside each the text that the printer has to print, and the names of the allowance rule's wires.
+"""Makes the circuit files of this folder, beside each the text that the printer has to print, and the names and a drawing of the
+allowance rule's wires.
 
     python3 examples/make.py           writes them
     python3 examples/make.py --check   fails where a file is another than the one it would write, and where the allowance rule misjudges a claim
@@ -15,6 +16,7 @@ import sys
 HERE = pathlib.Path(__file__).resolve().parent
 sys.path.insert(0, str(HERE.parent / "oracle"))
 
+from draw import drawing  # noqa: E402
 from gatfile import printed  # noqa: E402  (the independent program stands in another folder)
 
 XOR, AND, NOT = 0, 1, 2
@@ -171,7 +173,8 @@ def misjudged(tries=2000):
 
 def contents():
     """Every file of this folder that is made, by its name."""
-    made = {"allowance.names": names().encode()}
+    rule = printed(allowance().file())
+    made = {"allowance.names": names().encode(), "allowance.svg": drawing(rule, "The allowance rule: the bound on each wire's noise").encode()}
     for name, data in files().items():
         made[name + ".gat"] = data
         made[name + ".txt"] = printed(data).encode()
@@ -191,7 +194,7 @@ def main():
         return 0
     made = contents()
     if sys.argv[1:] == ["--check"]:
-        others = {path.name for path in HERE.iterdir() if path.suffix in (".gat", ".txt", ".names")} ^ set(made)
+        others = {path.name for path in HERE.iterdir() if path.suffix in (".gat", ".txt", ".names", ".svg")} ^ set(made)
         wrong = sorted(others | {name for name in made if name not in others and (HERE / name).read_bytes() != made[name]})
         for name in wrong:
             print(f"examples: {name} is not what make.py writes")
