@@ -12,7 +12,7 @@ use borrow.Author.Tests.{not-false}
 use Rattle.whole.specs.Tests.{or-left, or-right}
 use Rattle.whole.specs.Lists.{nil, cons, all}
 use Rattle.refusal.specs.declared.Params.{Params}
-use Rattle.refusal.specs.First.{firstOf, firstTrue, rising-row, rising-none, Clear, first-clear, first-under, someTrue, none-first, doneOr-done, doneOr-refused}
+use Rattle.refusal.specs.First.{firstOf, firstTrue, rising-row, rising-none, Clear, first-clear, first-each, someTrue, none-first, doneOr-done, doneOr-refused}
 use Rattle.refusal.specs.Parameters.{refused, InRange}
 use Rattle.scheme.specs.Arithmetic.{fits}
 use Rattle.scheme.specs.Passed.{params-in-range, length-is}
@@ -36,7 +36,7 @@ module _ (p : Params) (inputs : ℕ) (ks ls rs Bs : List ℕ) where
   -- the numbers of the rows in front are below those for the gates
   pub plan-early : firstOf (take 4 (planCoreRows p inputs ks ls rs Bs)) < 9
   unfolding planCoreRows
-  plan-early = first-under (omega arith) (cons (omega arith) (cons (omega arith) (cons (omega arith) (cons (omega arith) nil))))
+  plan-early = first-each (λ k. k < 9) (omega arith) (cons (omega arith) (cons (omega arith) (cons (omega arith) (cons (omega arith) nil))))
 
   pub plan-ready : firstOf (take 4 (planCoreRows p inputs ks ls rs Bs)) ≡ 0 → PlanReady p inputs ks ls rs Bs
   unfolding planCoreRows uneven

@@ -13,7 +13,7 @@ use borrow.Author.Tests.{leb-true, ne-eqb, not-false}
 use Rattle.whole.specs.Tests.{and-right, or-left, or-right, or-neither}
 use Rattle.whole.specs.Lists.{nil, cons, all}
 use Rattle.refusal.specs.declared.Params.{Params}
-use Rattle.refusal.specs.First.{Row, firstOf, rising-row, rising-none, someTrue, Clear, first-clear, first-under, first-front, first-rest}
+use Rattle.refusal.specs.First.{Row, firstOf, rising-row, rising-none, someTrue, Clear, first-clear, first-each, first-front, first-rest}
 use Rattle.refusal.specs.Parameters.{InRange, within, refused}
 use Rattle.scheme.specs.Arithmetic.{isResidue}
 use Rattle.scheme.specs.Calls.{differs}
@@ -38,7 +38,7 @@ module _ (p : Params) (inputs : ℕ) (ks ls rs : List ℕ) (wires : List ℤ) (B
   pub early-answer : {r : ℕ} → r ≡ firstOf (take 4 rows) → r ≢ 0 → refused r 0 ≡ evaluateCoreAnswer p inputs ks ls rs wires Bs W scratch
   unfolding evaluateCoreAnswer evaluateCoreRows
   early-answer {r} e h =
-      let small : r < 9 = rw e (first-under (omega arith) (cons (omega arith) (cons (omega arith) (cons (omega arith) (cons (omega arith) nil))))) in
+      let small : r < 9 = rw e (first-each (λ k. k < 9) (omega arith) (cons (omega arith) (cons (omega arith) (cons (omega arith) (cons (omega arith) nil))))) in
       rw (early-number e h) (ap (refused r) (sym (place-early p inputs (records ks ls rs) (take inputs Bs) r small)))
 
   -- it does not: what is left is planning's

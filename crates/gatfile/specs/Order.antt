@@ -7,11 +7,11 @@ use Prim.Native.Nat.{ℕ, zero, suc, _+_, _*_, _≤_, _<_}
 use native.Mathlib.Omega.{arith}
 use lib.Dec.{leb, ltb, eqb}
 use lib.ListN.{length}
-use borrow.Author.Tests.{ltb-true, ltb-false, leb-true, not-false, not-true}
+use borrow.Author.Tests.{ltb-false, leb-true, not-false, not-true}
 use Rattle.whole.specs.Tests.{and-left, and-right, or-right}
-use Rattle.whole.specs.Lists.{nil, cons, all, length-tabulate}
+use Rattle.whole.specs.Lists.{nil, cons, length-tabulate}
 use Rattle.refusal.specs.declared.Refusal.{Refusal}
-use Rattle.refusal.specs.First.{Row, firstOf, firstTrue, Clear, first-front, first-rest, first-under, first-within}
+use Rattle.refusal.specs.First.{Row, firstOf, firstTrue, Clear, first-front, first-rest, first-zero, first-each, first-within}
 use Rattle.refusal.specs.Parameters.{refused, within, InRange}
 use Rattle.scheme.specs.Calls.{badParams, differs}
 use Rattle.scheme.specs.Passed.{params-in-range, length-is}
@@ -19,35 +19,6 @@ use Rattle.circuit.specs.Circuits.{badCounts, wrongGates, overGates, gateRows, 
 use Rattle.circuit.specs.Answers.{inputs-within, gates-within}
 use Rattle.circuit.specs.Records.{length-wrongGates, length-overGates}
 use Rattle.gatfile.specs.File.{fileParams, fileInputs, fileGateCount, fileGate, fileGates, fileInputBounds, headRows, fileGateRows, checkNumber, planNumber, filePlace}
-
--- ---- rows whose numbers do not rise
-
-not-zero : {k : ℕ} → 0 < k → k ≢ 0
-not-zero h e = omega arith
-
--- number 0 means that no row applies, where no row has the number 0
-pub first-none : (rows : List Row) → all (λ r. ltb 0 (r .number)) rows ≡ true → firstOf rows ≡ 0 → Clear rows
-unfolding firstOf all
-first-none [] t e = tt
-first-none (r ∷ rows) t e = by-test (r .applies) refl e (first-none rows (and-right (ltb 0 (r .number)) (all (λ r. ltb 0 (r .number)) rows) t))
-  where
-    above : 0 < r .number
-    above = ltb-true 0 (r .number) (and-left (ltb 0 (r .number)) (all (λ r. ltb 0 (r .number)) rows) t)
-
-    by-test : (t : Bool) → r .applies ≡ t → cond t (r .number) (firstOf rows) ≡ 0 → (firstOf rows ≡ 0 → Clear rows) → Clear (r ∷ rows)
-    by-test true f z later = absurd (not-zero above z)
-    by-test false f z later = (f, later z)
-
--- the number given passes a test that 0 passes and the number of each row
-pub first-passes : (p : ℕ → Bool) (rows : List Row) → p 0 ≡ true → all (λ r. p (r .number)) rows ≡ true → p (firstOf rows) ≡ true
-unfolding firstOf all
-first-passes p [] z t = z
-first-passes p (r ∷ rows) z t =
-    by-test (r .applies) (and-left (p (r .number)) (all (λ r. p (r .number)) rows) t) (first-passes p rows z (and-right (p (r .number)) (all (λ r. p (r .number)) rows) t))
-  where
-    by-test : (t : Bool) → p (r .number) ≡ true → p (firstOf rows) ≡ true → p (cond t (r .number) (firstOf rows)) ≡ true
-    by-test true here later = here
-    by-test false here later = later
 
 -- ---- the place
 
@@ -86,8 +57,8 @@ otherLength file buffer = differs (length buffer) (4 * (fileInputs file + fileGa
 
 module _ (file : List ℕ) where
   head-clear : firstOf (headRows file) ≡ 0 → Clear (headRows file)
-  unfolding headRows all
-  head-clear e = first-none (headRows file) refl e
+  unfolding headRows
+  head-clear e = first-zero (cons (omega arith) (cons (omega arith) (cons (omega arith) (cons (omega arith) (cons (omega arith) nil))))) e
 
   pub head-right : firstOf (headRows file) ≡ 0 → HeadRight file
   unfolding headRows
@@ -110,8 +81,8 @@ module _ (file : List ℕ) where
 
   -- the place of the head's number is 0
   pub head-place : filePlace file (firstOf (headRows file)) ≡ 0
-  unfolding headRows all
-  head-place = place-none file (firstOf (headRows file)) (first-passes ofNoGate (headRows file) refl refl)
+  unfolding headRows
+  head-place = place-none file (firstOf (headRows file)) (first-each (λ k. ofNoGate k ≡ true) refl (cons refl (cons refl (cons refl (cons refl (cons refl nil))))))
 
   -- a place is a gate's, and so it is below 65,536
   gate-place : fileGateCount file ≤ 4096 → (k : ℕ) → filePlace file k ≤ 4096
@@ -150,7 +121,7 @@ module _ (file : List ℕ) where
   -- no number is above 12
   pub check-small : checkNumber file < 13
   unfolding checkNumber headRows fileGateRows gateRows
-  check-small = first-under (omega arith) (cons (omega arith) (cons (omega arith) (cons (omega arith) (cons (omega arith) (cons (omega arith) (cons (omega arith) (cons (omega arith) nil)))))))
+  check-small = first-each (λ k. k < 13) (omega arith) (cons (omega arith) (cons (omega arith) (cons (omega arith) (cons (omega arith) (cons (omega arith) (cons (omega arith) (cons (omega arith) nil)))))))
 
   -- ---- the answers, with number and place apart
 

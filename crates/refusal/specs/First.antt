@@ -105,18 +105,26 @@ abbrev pub Clear : List Row → Type 0
 Clear [] = Unit {0}
 Clear (r ∷ rows) = (r .applies ≡ false) × Clear rows
 
--- number 0 means that every test is false
-pub first-clear : (rows : List Row) (k : ℕ) → rising k rows ≡ true → firstOf rows ≡ 0 → Clear rows
-unfolding firstOf rising
-first-clear [] k up e = tt
-first-clear (r ∷ rows) k up e = by-test (r .applies) refl e (first-clear rows (r .number) (and-right (ltb k (r .number)) (rising (r .number) rows) up))
+-- number 0 means that every test is false, where no row has the number 0
+pub first-zero : {rows : List Row} → Each (λ r. 0 < r .number) rows → firstOf rows ≡ 0 → Clear rows
+unfolding firstOf
+first-zero nil e = tt
+first-zero (cons {x = r} {xs = rows} b up) e = by-test (r .applies) refl e (first-zero up)
   where
-    number-up : ltb k (r .number) ≡ true
-    number-up = and-left (ltb k (r .number)) (rising (r .number) rows) up
-
     by-test : (t : Bool) → r .applies ≡ t → cond t (r .number) (firstOf rows) ≡ 0 → (firstOf rows ≡ 0 → Clear rows) → Clear (r ∷ rows)
-    by-test true f z later = absurd (omega (arith, ltb-true k (r .number) number-up))
+    by-test true f z later = absurd (omega (arith, b))
     by-test false f z later = (f, later z)
+
+rising-above : (rows : List Row) (k : ℕ) → rising k rows ≡ true → Each (λ r. 0 < r .number) rows
+unfolding rising
+rising-above [] k up = nil
+rising-above (r ∷ rows) k up =
+    let here : k < r .number = ltb-true k (r .number) (and-left (ltb k (r .number)) (rising (r .number) rows) up) in
+    let above : 0 < r .number = omega (arith, here) in
+    cons above (rising-above rows (r .number) (and-right (ltb k (r .number)) (rising (r .number) rows) up))
+
+pub first-clear : (rows : List Row) (k : ℕ) → rising k rows ≡ true → firstOf rows ≡ 0 → Clear rows
+first-clear rows k up e = first-zero (rising-above rows k up) e
 
 -- one row after the other
 pub first-row : (k : ℕ) (t : Bool) (rows : List Row) → firstOf (row k t ∷ rows) ≡ cond t k (firstOf rows)
@@ -131,13 +139,13 @@ pub first-last : (k : ℕ) (t : Bool) → firstOf (row k t ∷ []) ≡ cond t k 
 unfolding firstOf
 first-last k t = refl
 
--- the number is below m where those of the rows are
-pub first-under : {m : ℕ} {rows : List Row} → 0 < m → Each (λ r. r .number < m) rows → firstOf rows < m
+-- what holds of 0 and of the number of each row holds of the number given
+pub first-each : (P : ℕ → Type 0) {rows : List Row} → P 0 → Each (λ r. P (r .number)) rows → P (firstOf rows)
 unfolding firstOf
-first-under h nil = h
-first-under {m} h (cons {x = r} {xs = rows} b e) = by-test (r .applies) (first-under h e)
+first-each P h nil = h
+first-each P h (cons {x = r} {xs = rows} b e) = by-test (r .applies) (first-each P h e)
   where
-    by-test : (t : Bool) → firstOf rows < m → cond t (r .number) (firstOf rows) < m
+    by-test : (t : Bool) → P (firstOf rows) → P (cond t (r .number) (firstOf rows))
     by-test true later = b
     by-test false later = later
 
