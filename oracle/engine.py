@@ -33,7 +33,7 @@ from calls import (
 )
 from circuit import AND, NOT, XOR, Gate, evaluate, evaluate_lists, plan, plan_lists
 from definitions import multiplier, switch, tensor, true_noise
-from gatfile import check_file, plan_file, printed
+from gatfile import check_file, plan_file, print_file, printed
 from params import HOUSE_SHEETS, Params, fits_budget, largest_that_fits
 
 __all__ = [
@@ -42,7 +42,7 @@ __all__ = [
     "check_bench_key", "check_file", "check_key", "decrypt", "encrypt", "evaluate",
     "evaluate_lists", "fits_budget", "house_sheet", "inner", "largest_that_fits",
     "make_bench_key", "make_params", "make_switching_key", "multiplier", "not_gate", "plan",
-    "plan_file", "plan_lists", "printed", "round_half_up", "switch", "tensor", "true_noise",
+    "plan_file", "plan_lists", "print_file", "printed", "round_half_up", "switch", "tensor", "true_noise",
     "xor_gate",
 ]
 

@@ -108,3 +108,15 @@ def printed(data, rules=PAPER):
     ]
     largest = largest_that_fits(look.head.params)
     return "".join(lines) + f"OK {look.bounds[-1]} {largest}\n"
+
+
+def print_file(data, buffer, rules=PAPER):
+    """The text in a lent byte buffer. Answers its length and writes it at the front.
+
+    A buffer that is shorter than the text stays as it is, and the answer is 0.
+    """
+    text = printed(data, rules).encode()
+    if len(buffer) < len(text):
+        return 0
+    buffer[: len(text)] = text
+    return len(text)

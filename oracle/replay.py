@@ -1,15 +1,17 @@
 """Holds the program `replay` against this one, call by call. docs/REPLAY.md has the format.
 
     python3 oracle/replay.py --speak < calls > answers
-    python3 oracle/replay.py --make --seed N --count N --circuits N > calls
-    python3 oracle/replay.py --compare --seed N --count N --circuits N [--program FILE]
+    python3 oracle/replay.py --make --seed N --count N --circuits N --files N > calls
+    python3 oracle/replay.py --compare --seed N --count N --circuits N --files N [--program FILE]
     python3 oracle/replay.py --write
     python3 oracle/replay.py --check
 
 --speak answers calls, --make writes a random batch, --compare makes a batch and has
-both programs answer it. A batch has --count calls on sets, keys and ciphertexts, and then
---circuits circuits, planning and evaluation of each; --compare adds the largest circuit. --write writes the batch of the gate, with this program's
-answers, beside the source of `replay`, and --check fails where the files are others.
+both programs answer it. A batch has --count calls on sets, keys and ciphertexts, then
+--circuits circuits, planning and evaluation of each, and then --files circuit files, check, planning
+and printing of each; --compare adds the largest circuit and the largest file. --write writes the batch
+of the gate, with this program's answers, beside the source of `replay`, and --check fails where
+the stored ones are others.
 The exit status is 1 on a difference, and where a batch shows too little.
 """
 
@@ -22,6 +24,7 @@ import time
 from pathlib import Path
 
 import replay_circuits
+import replay_files
 import replay_gate
 from replay_batch import FULL, make_batch, unreadable_texts
 from replay_format import END, answered, line_of, spoken, written
@@ -46,11 +49,18 @@ def misread(program):
     return None
 
 
-def batch(seed, count, circuits):
-    """So many random calls on sets, keys and ciphertexts, and then so many circuits."""
+def batch(seed, count, circuits, files):
+    """So many random calls on sets, keys and ciphertexts, then so many circuits, then so many files."""
     rng = random.Random(seed)
     return itertools.chain(make_batch(rng, count, FULL),
-                           replay_circuits.make_circuits(rng, circuits, replay_circuits.FULL))
+                           replay_circuits.make_circuits(rng, circuits, replay_circuits.FULL),
+                           replay_files.make_files(rng, files))
+
+
+def largest_calls(seed):
+    """The calls on the largest circuit and on the largest file."""
+    return itertools.chain(replay_circuits.largest_calls(random.Random(seed)),
+                           replay_files.largest_calls(random.Random(seed)))
 
 
 def differing(program, calls, answers):
@@ -90,7 +100,7 @@ def show_difference(before, part, found):
     print("expected: " + cut(expected) + "program:  " + cut(other), end="")
 
 
-def compare(seed, count, circuits, program):
+def compare(seed, calls, program):
     """Has both programs answer a batch. 1 on a difference or where too little was seen."""
     started = time.time()
     text = misread(program)
@@ -98,8 +108,7 @@ def compare(seed, count, circuits, program):
         print("a text that ends with no call is answered otherwise: " + cut(text))
         return 1
     tally = Tally()
-    largest = replay_circuits.largest_calls(random.Random(seed))
-    for part in parts(itertools.chain(largest, batch(seed, count, circuits)), PART):
+    for part in parts(itertools.chain(largest_calls(seed), calls), PART):
         answers = [answered(call) for call in part]
         found = differing(program, part, answers)
         if found:
@@ -126,6 +135,7 @@ def arguments():
     parser.add_argument("--seed", type=int, default=1)
     parser.add_argument("--count", type=int, default=1000)
     parser.add_argument("--circuits", type=int, default=200)
+    parser.add_argument("--files", type=int, default=200)
     parser.add_argument("--program", default=str(PROGRAM))
     return parser.parse_args()
 
@@ -136,12 +146,12 @@ def main():
     if asked.speak:
         sys.stdout.writelines(spoken(sys.stdin.read()))
         return 0
+    calls = batch(asked.seed, asked.count, asked.circuits, asked.files)
     if asked.make:
-        calls = batch(asked.seed, asked.count, asked.circuits)
         sys.stdout.writelines(written(call) for call in calls)
         return 0
     if asked.compare:
-        return compare(asked.seed, asked.count, asked.circuits, asked.program)
+        return compare(asked.seed, calls, asked.program)
     return replay_gate.write() if asked.write else replay_gate.check()
 
 

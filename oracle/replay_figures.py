@@ -1,4 +1,5 @@
-"""The figures of the paper's section 'Sheet 0 and edge figures' as calls, each with its answer.
+"""The figures of the paper's section 'Sheet 0 and edge figures' and its printed example as calls,
+each with its answer.
 
 The answers stand here as the paper has them. The noises are no calls. AND on
 sheet 0 is always over budget, so tensor and switch are shown on n = 2, q = 16 with
@@ -7,11 +8,17 @@ its entries out, since q times 1 at column j and 0 elsewhere gives tensor entry 
 """
 
 from engine import HOUSE_SHEETS, Params
-from replay_format import (AND, DECRYPT, ENCRYPT, EVALUATE, MAKE, MAKE_SWITCHING_KEY, NOT, PLAN,
-                           SHEET, XOR, answered)
+from replay_format import (AND, CHECK_FILE, DECRYPT, ENCRYPT, EVALUATE, MAKE, MAKE_SWITCHING_KEY, NOT,
+                           PLAN, PLAN_FILE, PRINT_FILE, SHEET, XOR, answered)
 
 SHEET_0, SHEET_1 = HOUSE_SHEETS[0], HOUSE_SHEETS[1]
 QUIET = Params(2, 16, 1, 0, 0)
+
+EXAMPLE_FILE = list(bytes.fromhex(
+    "47 41 54 00 01 00 04 00 01 00 00 00 04 00 00 00 02 00 01 00 02 00 03"
+    " 01 00 00 00 01 02 00 02 00 00 00 00 03 00 00"))
+EXAMPLE_BOUNDS = [0, 0, 0, 2, 0, 0, 0, 2, 0, 0, 0, 34, 0, 0, 0, 34, 0, 0, 0, 36]
+EXAMPLE_TEXT = list(b"0 IN 2\n1 IN 2\n2 AND 34\n3 NOT 34\n4 XOR 36\nOK 36 16383\n")
 
 MASKS = [100, -100, 7, 0]
 ERRORS = [1, 0, 0, -1]
@@ -133,9 +140,26 @@ def circuit_figures():
     ]
 
 
+def file_figures():
+    """The printed example: its check, its bounds and its text, and each buffer also a byte too short.
+    The same at E = 2,048, where its AND does not fit."""
+    long, over = len(EXAMPLE_TEXT), list(b"REFUSED 10 0\n")
+    loud = EXAMPLE_FILE[:13] + [0, 0, 8, 0] + EXAMPLE_FILE[17:]
+    return [
+        ((CHECK_FILE, [EXAMPLE_FILE]), [0]),
+        ((PLAN_FILE, [EXAMPLE_FILE, [9] * 20]), [0] + EXAMPLE_BOUNDS),
+        ((PLAN_FILE, [EXAMPLE_FILE, [9] * 19]), [3 * 65536] + [9] * 19),
+        ((PRINT_FILE, [EXAMPLE_FILE, [9] * long]), [long] + EXAMPLE_TEXT),
+        ((PRINT_FILE, [EXAMPLE_FILE, [9] * (long + 3)]), [long] + EXAMPLE_TEXT + [9] * 3),
+        ((PRINT_FILE, [EXAMPLE_FILE, [9] * (long - 1)]), [0] + [9] * (long - 1)),
+        ((CHECK_FILE, [loud]), [10 * 65536]),
+        ((PRINT_FILE, [loud, [9] * len(over)]), [len(over)] + over),
+    ]
+
+
 def figures():
     """Every figure as a call and the paper's answer."""
-    return proved_figures() + edge_figures() + slips() + circuit_figures()
+    return proved_figures() + edge_figures() + slips() + circuit_figures() + file_figures()
 
 
 def wrong_figures():

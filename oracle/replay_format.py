@@ -10,18 +10,20 @@ import engine
 from engine import PAPER, Params
 
 (MAKE, SHEET, CHECK_KEY, MAKE_SWITCHING_KEY, CHECK_BENCH_KEY, MAKE_BENCH_KEY, ENCRYPT, DECRYPT,
- XOR, NOT, AND, PLAN, EVALUATE) = range(1, 14)
+ XOR, NOT, AND, PLAN, EVALUATE, CHECK_FILE, PLAN_FILE, PRINT_FILE) = range(1, 17)
 
 NAMES = {
     MAKE: "make", SHEET: "sheet", CHECK_KEY: "check_key",
     MAKE_SWITCHING_KEY: "make_switching_key", CHECK_BENCH_KEY: "check_bench_key",
     MAKE_BENCH_KEY: "make_bench_key", ENCRYPT: "encrypt", DECRYPT: "decrypt",
     XOR: "xor", NOT: "not", AND: "and", PLAN: "plan", EVALUATE: "evaluate",
+    CHECK_FILE: "check_file", PLAN_FILE: "plan_file", PRINT_FILE: "print_file",
 }
 
 # What a call borrows: an unsigned word, a signed number, a parameter set, a key, a buffer of
-# at most n, n^2 or n^3 entries, or a list of words, one for each gate or wire of a circuit.
-WORD, NUMBER, SET, KEY, SHORT, MIDDLE, LONG, RUN = range(8)
+# at most n, n^2 or n^3 entries, a list of words, one for each gate or wire of a circuit, or a list
+# of bytes: a circuit file or its bounds, or the buffer of a text.
+WORD, NUMBER, SET, KEY, SHORT, MIDDLE, LONG, RUN, FILE, TEXT = range(10)
 
 FIELDS = {
     MAKE: [SET],
@@ -37,13 +39,19 @@ FIELDS = {
     AND: [SET, SHORT, WORD, SHORT, WORD, LONG, MIDDLE, SHORT],
     PLAN: [SET, WORD, RUN, RUN, RUN, RUN],
     EVALUATE: [SET, WORD, RUN, RUN, RUN, LONG, RUN, LONG, MIDDLE],
+    CHECK_FILE: [FILE],
+    PLAN_FILE: [FILE, FILE],
+    PRINT_FILE: [FILE, TEXT],
 }
 
 WORDS = (0, 2**32 - 1)
 NUMBERS = (-(2**63), 2**63 - 1)
 KEY_ENTRIES = (-(2**31), 2**31 - 1)
-MOST_ENTRIES = {KEY: 128, SHORT: 128, MIDDLE: 4160, LONG: 262400, RUN: 5200}
-WIDTHS = {KEY: KEY_ENTRIES, SHORT: NUMBERS, MIDDLE: NUMBERS, LONG: NUMBERS, RUN: WORDS}
+BYTES = (0, 255)
+MOST_ENTRIES = {KEY: 128, SHORT: 128, MIDDLE: 4160, LONG: 262400, RUN: 5200, FILE: 20600,
+                TEXT: 81000}
+WIDTHS = {KEY: KEY_ENTRIES, SHORT: NUMBERS, MIDDLE: NUMBERS, LONG: NUMBERS, RUN: WORDS,
+          FILE: BYTES, TEXT: BYTES}
 
 END = "end \n"
 
@@ -107,6 +115,16 @@ def bench_key(fields):
     return [x for row in engine.make_bench_key(*fields) for x in row]
 
 
+def file_answer(number, lent, rules):
+    """The answer of a call on a circuit file, and the bytes that it leaves."""
+    data = bytes(lent[0])
+    if number == CHECK_FILE:
+        return [engine.check_file(data, rules)]
+    buffer = bytearray(lent[1])
+    do = engine.plan_file if number == PLAN_FILE else engine.print_file
+    return [do(data, buffer, rules), *buffer]
+
+
 def answered(call, rules=PAPER):
     """What the call returns, and then the buffers that it may write, as they are at its exit.
 
@@ -117,6 +135,8 @@ def answered(call, rules=PAPER):
     if number in (MAKE, SHEET):
         made = engine.make_params(*lent[0]) if number == MAKE else engine.house_sheet(lent[0])
         return [made.number, made.place, *made.params]
+    if number in (CHECK_FILE, PLAN_FILE, PRINT_FILE):
+        return file_answer(number, lent, rules)
     if number == CHECK_BENCH_KEY:
         return [engine.check_bench_key(*lent), 0]
     if number == MAKE_BENCH_KEY:

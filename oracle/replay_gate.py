@@ -1,5 +1,5 @@
-"""The batch of the gate: the paper's figures, some random calls and circuits, with this program's
-answers.
+"""The batch of the gate: the paper's figures, some random calls, circuits and circuit files, with this
+program's answers.
 
 It is stored beside the source of the program `replay`, which is run on it.
 """
@@ -9,17 +9,19 @@ from pathlib import Path
 
 import faults
 import replay_circuits
+import replay_files
 from replay_batch import SMALL, make_batch
 from replay_figures import figures, wrong_figures
 from replay_format import NAMES, answered, spoken, written
-from replay_tally import CIRCUIT_CALLS, Tally
+from replay_tally import CIRCUIT_CALLS, FILE_CALLS, Tally
 
 STORED = Path(__file__).resolve().parent.parent / "crates" / "replay"
 SEED, COUNT = 20243, 400
 CIRCUIT_SEED, CIRCUITS = 53, 80
+FILE_SEED, FILES, FILE_BYTES = 38, 60, 90
 
-# The planted faults that are to be seen in the calls on sets, keys and ciphertexts, and those
-# that are to be seen in the calls on circuits.
+# The planted faults that are to be seen in the calls on sets, keys and ciphertexts, those that are
+# to be seen in the calls on circuits, and those in the calls on files.
 FAULTS = ("HALVES_AWAY_FROM_ZERO", "HALVES_DOWN", "EACH_PRODUCT_ROUNDED", "SUM_CUT_TO_64_BITS",
           "AND_BOUND_ONE_LESS", "AND_BOUND_ONE_FLOOR", "A_QUARTER_READS_ONE",
           "ENTRIES_FROM_ZERO_UP")
@@ -27,14 +29,17 @@ CIRCUIT_FAULTS = (
     "HALVES_AWAY_FROM_ZERO", "HALVES_DOWN", "EACH_PRODUCT_ROUNDED", "SUM_CUT_TO_64_BITS",
     "AND_BOUND_ONE_LESS", "AND_BOUND_ONE_FLOOR", "ENTRIES_FROM_ZERO_UP", "PLACE_OF_THE_LAST",
     "LAST_GATE_FREE", "UNUSED_GATES_FREE", "SCRATCH_LEFT")
+FILE_FAULTS = ("AND_BOUND_ONE_LESS", "AND_BOUND_ONE_FLOOR", "PLACE_OF_THE_LAST", "LAST_GATE_FREE",
+               "UNUSED_GATES_FREE")
 
 
 def calls_of_the_gate():
-    """The paper's figures, then random calls, then circuits."""
+    """The paper's figures, then random calls, then circuits, then files."""
     single = make_batch(random.Random(SEED), COUNT, SMALL)
     circuits = replay_circuits.make_circuits(
         random.Random(CIRCUIT_SEED), CIRCUITS, replay_circuits.SMALL)
-    return [call for call, _ in figures()] + list(single) + list(circuits)
+    on_files = replay_files.make_files(random.Random(FILE_SEED), FILES, FILE_BYTES)
+    return [call for call, _ in figures()] + list(single) + list(circuits) + list(on_files)
 
 
 def files(calls):
@@ -60,11 +65,12 @@ def complaints(calls):
     bad += tally.seldom(1, NAMES)
     if not tally.circuits.both:
         bad.append("no circuit is refused with 9 after a gate that does not fit")
-    single = [call for call in calls if call[0] not in CIRCUIT_CALLS]
-    circuits = [call for call in calls if call[0] in CIRCUIT_CALLS]
-    bad += [f"no call shows the planted fault {name}" for name in unseen_faults(FAULTS, single)]
-    bad += [f"no circuit shows the planted fault {name}"
-            for name in unseen_faults(CIRCUIT_FAULTS, circuits)]
+    bad += tally.files.seldom(1)
+    single = [kind for kind in NAMES if kind not in CIRCUIT_CALLS + FILE_CALLS]
+    for what, kinds, names in (("call", single, FAULTS), ("circuit", CIRCUIT_CALLS, CIRCUIT_FAULTS),
+                               ("file", FILE_CALLS, FILE_FAULTS)):
+        some = [call for call in calls if call[0] in kinds]
+        bad += [f"no {what} shows the planted fault {name}" for name in unseen_faults(names, some)]
     for name, text in files(calls).items():
         path = STORED / name
         if not path.exists() or path.read_text() != text:
@@ -81,7 +87,8 @@ def check():
     if not bad:
         sizes = ", ".join(f"{name} {len(text)} bytes" for name, text in files(calls).items())
         print(f"batch of the gate: {len(calls)} calls, every number that a call can give, "
-              f"{len(FAULTS)} planted faults seen, {len(CIRCUIT_FAULTS)} in circuits, {sizes}")
+              f"{len(FAULTS)} planted faults seen, {len(CIRCUIT_FAULTS)} in circuits, "
+              f"{len(FILE_FAULTS)} in files, {sizes}")
     return 1 if bad else 0
 
 

@@ -6,8 +6,8 @@ import circuit
 import engine
 from engine import Gate
 from replay_batch import REFUSALS
-from replay_format import (AND, CHECK_BENCH_KEY, EVALUATE, MAKE_BENCH_KEY, MAKE_SWITCHING_KEY,
-                           NAMES, PLAN, answered)
+from replay_format import (AND, CHECK_BENCH_KEY, CHECK_FILE, EVALUATE, MAKE_BENCH_KEY,
+                           MAKE_SWITCHING_KEY, NAMES, PLAN, PLAN_FILE, PRINT_FILE, answered)
 
 ENOUGH = 50        # how often each number of a call is to be seen in a batch of ENOUGH_IN
 ENOUGH_WIDE = 100  # and how many ANDs whose S passes 2^63
@@ -16,12 +16,21 @@ ENOUGH_IN = 20000
 ENOUGH_CIRCUITS = 5000     # the same of the two calls on circuits, in a batch of so many of them
 ENOUGH_WITH_AN_AND = 1000  # and how many that are accepted and have an AND
 
+# The same of the three calls on files, and of texts that just fit and just do not.
+ENOUGH_FILES = 5000
+
 CIRCUIT_CALLS = (PLAN, EVALUATE)
+FILE_CALLS = (CHECK_FILE, PLAN_FILE, PRINT_FILE)
 
 
 def number_of(call, answer):
-    """The number that a call gives. That of the bench key maker is that of its check."""
-    return answered((CHECK_BENCH_KEY, call[1]))[0] if call[0] == MAKE_BENCH_KEY else answer[0]
+    """The number that a call gives. Those of the bench key maker and of the printer are those of the
+    checks."""
+    if call[0] == MAKE_BENCH_KEY:
+        return answered((CHECK_BENCH_KEY, call[1]))[0]
+    if call[0] == PRINT_FILE:
+        return answered((CHECK_FILE, call[1][:1]))[0] // 65536
+    return answer[0] // 65536 if call[0] in FILE_CALLS else answer[0]
 
 
 def is_wide(p, left, right, key):
@@ -107,6 +116,48 @@ class Circuits:
               f"with 9 after a gate that does not fit: {self.both}")
 
 
+class Files:
+    """What was seen of circuit files."""
+
+    def __init__(self):
+        self.late = Counter()  # 9 and 10 at a gate that is not the first
+        self.room = Counter()  # texts of accepted files, by how much longer the buffer is
+        self.short = 0         # texts that had no room
+        self.longest = 0       # text
+        self.largest = 0       # file, in bytes
+
+    def take(self, call, answer, number):
+        """Counts a call."""
+        kind, fields = call
+        self.largest = max(self.largest, len(fields[0]))
+        if kind == CHECK_FILE and number in (9, 10):
+            self.late[number] += answer[0] % 65536 > 0
+        if kind == PRINT_FILE:
+            self.take_text(fields, answer[0], number)
+
+    def take_text(self, fields, printed, number):
+        """Counts a text."""
+        length = printed or len(engine.printed(bytes(fields[0])))
+        self.longest = max(self.longest, printed)
+        self.short += printed == 0
+        if number == 0:
+            self.room[len(fields[1]) - length] += 1
+
+    def seldom(self, least):
+        """Which texts of accepted files were seen fewer than so many times."""
+        return [f"fewer than {least} texts of accepted files in a buffer {what}"
+                for over, what in ((0, "just long enough"), (-1, "one byte too short"))
+                if self.room[over] < least]
+
+    def show(self):
+        """Prints what was seen."""
+        print("files refused with 9 and 10 at a gate after the first: "
+              f"{self.late[9]} and {self.late[10]}, most bytes of a file: {self.largest}")
+        print(f"texts of accepted files in a buffer just long enough: {self.room[0]}, "
+              f"one byte too short: {self.room[-1]}, texts without room in all: {self.short}, "
+              f"longest text: {self.longest} bytes")
+
+
 class Tally:
     """Counts calls by their kinds and numbers."""
 
@@ -116,6 +167,7 @@ class Tally:
         self.made = Counter()   # switching keys and ANDs that were made, by n
         self.wide = 0           # ANDs with some |S| of 2^63 or more
         self.circuits = Circuits()
+        self.files = Files()
 
     def take(self, call, answer):
         """Counts a call."""
@@ -124,6 +176,8 @@ class Tally:
         self.seen[kind, number] += 1
         if kind in CIRCUIT_CALLS:
             self.circuits.take(call, answer)
+        elif kind in FILE_CALLS:
+            self.files.take(call, answer, number)
         elif number == 0 and kind in (MAKE_SWITCHING_KEY, AND):
             p, fields = call[1][0], call[1]
             self.made[p.n] += 1
@@ -142,6 +196,7 @@ class Tally:
         sizes = " ".join(f"{n}:{self.made[n]}" for n in sorted(self.made))
         print(f"switching keys and ANDs that were made, by n: {sizes}")
         self.circuits.show()
+        self.files.show()
 
     def seldom(self, least, kinds):
         """What was seen fewer than so many times, of the numbers that these calls can give."""
@@ -150,7 +205,7 @@ class Tally:
 
     def lacks(self):
         """What a batch that is large enough has shown too seldom."""
-        single = [kind for kind in NAMES if kind not in CIRCUIT_CALLS]
+        single = [kind for kind in NAMES if kind not in CIRCUIT_CALLS + FILE_CALLS]
         few = []
         if self.total(single) >= ENOUGH_IN:
             few += self.seldom(ENOUGH, single)
@@ -160,4 +215,7 @@ class Tally:
             few += self.seldom(ENOUGH, CIRCUIT_CALLS)
             if sum(self.circuits.with_an_and.values()) < ENOUGH_WITH_AN_AND:
                 few.append(f"fewer than {ENOUGH_WITH_AN_AND} circuits with an AND were evaluated")
+        if self.total([CHECK_FILE]) >= ENOUGH_FILES:
+            few += self.seldom(ENOUGH, FILE_CALLS)
+            few += self.files.seldom(ENOUGH)
         return few

@@ -1,17 +1,18 @@
 -- What a call in the store lends, by its places in it, and what a buffer takes of a list. Assumes nothing.
-use mathlib.Core.Path.{_≡_, refl}
+use mathlib.Core.Path.{_≡_, refl, sym, _∙_}
 use mathlib.Core.Bool.{cond, true, false}
-use mathlib.Core.List.{List, []}
+use mathlib.Core.List.{List, [], map}
 use Prim.Native.Nat.{ℕ, _+_, _≤_, _<_, min}
 use native.Mathlib.Omega.{arith}
 use lib.Dec.{leb}
 use lib.IntN.{ℤ, pos}
-use lib.ListN.{length, getD, take, drop}
+use lib.ListN.{length, getD, take, drop, set, length-map}
 use borrow.Author.Tests.{le-leb, lt-leb}
 use Rattle.refusal.specs.declared.Params.{Params}
 use Rattle.refusal.specs.Parameters.{params}
 use Rattle.stream.specs.Bounds.{Counts}
-use Rattle.stream.specs.Front.{front, front-counts}
+use Rattle.stream.specs.Front.{front, front-counts, Put, put-more, put-all}
+use Rattle.whole.specs.Lists.{getD-map}
 use Rattle.replay.specs.Width.{word}
 
 -- the number at a place, and 0 beyond the call
@@ -71,3 +72,19 @@ module _ {A : Type 0} where
   took-all xs found out h l e =
       let t : leb (length xs) (length found) ≡ true = le-leb (length xs) (length found) h in
       (rw t, rw t e, rw e (front-counts xs found), l)
+
+-- ---- the same, each entry by f
+
+module _ {A B : Type 0} (f : A → B) where
+  pub none-mapped : (xs : List A) (found : List B) → length found < length xs → Took (map f xs) found 0 found
+  none-mapped xs found h = took-none (map f xs) found (rw length-map h)
+
+  -- one entry more
+  pub more-mapped : (xs : List A) {found out : List B} {i : ℕ} → Put (map f xs) found out i → (x : B) (a : A) → i < length xs → length xs ≤ length found → x ≡ f (getD xs i a)
+      → Put (map f xs) found (set out i x) (i + 1)
+  more-mapped xs {found} {out} {i} p x a h l e =
+      put-more p x (f a) (rw length-map h) (rw length-map l) (e ∙ sym (getD-map f xs i a (f a) h))
+
+  pub all-mapped : (xs : List A) {found out : List B} {i : ℕ} → Put (map f xs) found out i → length xs ≤ i → length xs ≤ length found → Took (map f xs) found (length xs) out
+  all-mapped xs {found} {out} p h l =
+      rw (length-map xs f) at (took-all (map f xs) found out (rw length-map l) (p .kept) (put-all p (rw length-map h)))

@@ -3,7 +3,7 @@
 ghost use mathlib.Core.Path.{_≡_};
 ghost use mathlib.Core.List.{map};
 ghost use Rattle.replay.specs.Lent.{numberAt, wordAt, nextAt, listAt, pastAt, paramsAt, Took};
-ghost use Rattle.replay.specs.Width.{narrow as Width·narrow, word as Width·word};
+ghost use Rattle.replay.specs.Width.{narrow as Width·narrow, word as Width·word, byte as Width·byte};
 use crate::width;
 use refusal::Params;
 
@@ -111,6 +111,20 @@ pub fn words(call: &[i64], at: usize, out: &mut [u32]) -> usize
     }
     for i in 0..xs.len() {
         out[i] = width::word(xs[i]);
+    }
+    xs.len()
+}
+
+// Copies the bytes at a place to the front of a buffer, in the same way.
+pub fn bytes(call: &[i64], at: usize, out: &mut [u8]) -> usize
+    ensures { λ r. ⌜ Took (map Width·byte (listAt (now (call .entry)) at)) (now (out .entry)) r (now (out .exit)) ⌝ }
+{
+    let xs = list(call, at);
+    if xs.len() > out.len() {
+        return 0;
+    }
+    for i in 0..xs.len() {
+        out[i] = width::byte(xs[i]);
     }
     xs.len()
 }

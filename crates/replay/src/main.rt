@@ -4,6 +4,7 @@ ghost use Rattle.stream.specs.Bounds.{Placed};
 
 mod ciphers;
 mod circuits;
+mod files;
 mod gate;
 mod keys;
 mod lent;
@@ -18,7 +19,7 @@ use read::STORE;
 // The most calls of a run. A proved loop has to end, and nothing says that the input does.
 const CALLS: usize = 4294967296;
 
-// Does the call and puts its answer into the text. The numbers of calls are 1 to 13 (`read`).
+// Does the call and puts its answer into the text. The numbers of calls are 1 to 16 (`read`).
 fn answer(call: &[i64], text: &mut [u8], at: usize, long: &mut [i64]) -> usize
     ensures { λ r. ⌜ Placed r (now (text .entry)) (now (text .exit)) ⌝ }
 {
@@ -35,7 +36,10 @@ fn answer(call: &[i64], text: &mut [u8], at: usize, long: &mut [i64]) -> usize
         10 => gate::not(call, text, at),
         11 => gate::and(call, text, at),
         12 => circuits::plan(call, text, at),
-        _ => circuits::evaluate(call, text, at, long),
+        13 => circuits::evaluate(call, text, at, long),
+        14 => files::check(call, text, at),
+        15 => files::plan(call, text, at),
+        _ => files::print(call, text, at),
     }
 }
 

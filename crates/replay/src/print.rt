@@ -9,7 +9,7 @@ use scheme::Bounded;
 use scheme::Decrypted;
 
 // Puts a number from 0 up.
-fn unsigned(text: &mut [u8], at: usize, x: u64) -> usize
+pub fn unsigned(text: &mut [u8], at: usize, x: u64) -> usize
     ensures { λ r. ⌜ Placed r (now (text .entry)) (now (text .exit)) ⌝ }
 {
     let mut digits = [0u8; 20];
@@ -31,6 +31,18 @@ pub fn entries(text: &mut [u8], at: usize, xs: &[i64]) -> usize
 
 // Puts the numbers of 32 bits of a buffer, on the same terms.
 pub fn words(text: &mut [u8], at: usize, xs: &[u32]) -> usize
+    requires { ⌜ at ≤ length (now text) ⌝ }
+    ensures { λ r. ⌜ Placed r (now (text .entry)) (now (text .exit)) ⌝ }
+{
+    let mut to = at;
+    for i in 0..xs.len() {
+        to = unsigned(text, to, xs[i] as u64);
+    }
+    to
+}
+
+// Puts the bytes of a buffer, each as a number, on the same terms.
+pub fn bytes(text: &mut [u8], at: usize, xs: &[u8]) -> usize
     requires { ⌜ at ≤ length (now text) ⌝ }
     ensures { λ r. ⌜ Placed r (now (text .entry)) (now (text .exit)) ⌝ }
 {

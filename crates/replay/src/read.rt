@@ -8,8 +8,8 @@ use crate::width::count;
 use stream::Cursor;
 
 // What a call has at a place: nothing (O), a number of 32 bits from 0 up (W), a number of 64 bits
-// (X), a key (K), a list of n, n² or n³ numbers of 64 bits (N1, N2, N3), or a list with a number of 32
-// bits from 0 up for each gate or wire (U).
+// (X), a key (K), a list of n, n² or n³ numbers of 64 bits (N1, N2, N3), a list with a number of 32 bits
+// from 0 up for each gate or wire (U), or a list of bytes: a file's or its bounds' (B), or a text's (T).
 const O: u8 = 0;
 
 const W: u8 = 1;
@@ -26,6 +26,10 @@ const N3: u8 = 6;
 
 const U: u8 = 7;
 
+const B: u8 = 8;
+
+const T: u8 = 9;
+
 // The most entries of a key and of a list of n, n² and n³ entries. They serve up to n = 64, and a
 // little more, so that a wrong length can be tried.
 pub const SHORT: usize = 128;
@@ -37,11 +41,17 @@ pub const LONG: usize = 262400;
 // The most entries of a list for gates or wires, of which a circuit has at most 4,096 and 5,120.
 pub const WIRES: usize = 5200;
 
+// The most bytes of a circuit file or of its bounds, which have at most 20,503 and 20,480, and of a
+// text, which has at most 79,803.
+pub const FILE: usize = 20600;
+
+pub const TEXT: usize = 81000;
+
 // The most numbers of a call: call 13 has the most, two lists of LONG among them.
 pub const STORE: usize = 550000;
 
 // What each call has after its number; there is no call 0. Five W are a parameter set.
-const SHAPES: [[u8; 13]; 14] = [
+const SHAPES: [[u8; 13]; 17] = [
     [O, O, O, O, O, O, O, O, O, O, O, O, O],
     [W, W, W, W, W, O, O, O, O, O, O, O, O],
     [W, O, O, O, O, O, O, O, O, O, O, O, O],
@@ -56,6 +66,9 @@ const SHAPES: [[u8; 13]; 14] = [
     [W, W, W, W, W, N1, W, N1, W, N3, N2, N1, O],
     [W, W, W, W, W, W, U, U, U, U, O, O, O],
     [W, W, W, W, W, W, U, U, U, N3, U, N3, N2],
+    [B, O, O, O, O, O, O, O, O, O, O, O, O],
+    [B, B, O, O, O, O, O, O, O, O, O, O, O],
+    [B, T, O, O, O, O, O, O, O, O, O, O, O],
 ];
 
 // Where reading stands: what is left of the block that was read last, how many numbers the store
@@ -111,6 +124,12 @@ fn run(block: &mut [u8], r: Reader, store: &mut [i64], n: usize, low: i64, high:
 
 // The most entries of a list of a kind.
 fn most(kind: u8) -> i64 {
+    if kind == T {
+        return TEXT as i64;
+    }
+    if kind == B {
+        return FILE as i64;
+    }
     if kind == U {
         return WIRES as i64;
     }
@@ -135,6 +154,10 @@ fn list(block: &mut [u8], r: Reader, store: &mut [i64], kind: u8) -> Reader {
     }
     if kind == U {
         return run(block, counted, store, n, 0, 4294967295);
+    }
+    // B and T are bytes.
+    if kind >= B {
+        return run(block, counted, store, n, 0, 255);
     }
     run(
         block,
@@ -176,7 +199,7 @@ fn parts(block: &mut [u8], r: Reader, store: &mut [i64], shape: [u8; 13]) -> Rea
 // What the call of a number has.
 fn shape(number: i64) -> [u8; 13] {
     let k = count(number);
-    if k < 14 {
+    if k < 17 {
         return SHAPES[k];
     }
     SHAPES[0]
@@ -194,7 +217,7 @@ pub fn call(block: &mut [u8], from: Cursor, store: &mut [i64]) -> Reader
         value: 0,
         good: true,
     };
-    let number = take(block, start, store, 1, 13);
+    let number = take(block, start, store, 1, 16);
     let last = parts(block, number, store, shape(number.value));
     let cursor = last.cursor;
     if last.at <= store.len() {

@@ -1,17 +1,16 @@
 -- `lent::key` copies a list's entries, each narrowed, to the front of a buffer that has room for them, and answers their count. The invariant:
 -- those passed stand there (`Put`); the measure is how many entries are left. Assumes nothing.
 use Prim.Native.Nat.{_≤_, _-_}
-use mathlib.Core.Path.{_≡_, sym, _∙_}
+use mathlib.Core.Path.{_≡_}
 use mathlib.Core.List.{map}
 use native.Mathlib.Omega.{arith}
 use lib.IntN.{pos}
-use lib.ListN.{length, getD, length-map}
+use lib.ListN.{length, getD}
 use mir.Facts.{toZ-ofZ}
 use mir.Syntax.{w32, w64}
 use borrow.Author.Needs.{sfits-of}
-use Rattle.whole.specs.Lists.{getD-map}
-use Rattle.stream.specs.Front.{Put, put-none, put-more, put-all}
-use Rattle.replay.specs.Lent.{took-none, took-all}
+use Rattle.stream.specs.Front.{Put, put-none}
+use Rattle.replay.specs.Lent.{none-mapped, more-mapped, all-mapped}
 use Rattle.replay.specs.Width.{narrow}
 use Rattle.replay.proofs.lent.key.Statement.{statement}
 use Rattle.replay.proofs.lent.key.Tie as tie
@@ -26,7 +25,7 @@ list-requires : tie.Need-list-requires Inv-loop μ-loop
 list-requires c κs = tt
 
 returns : tie.Need-returns Inv-loop μ-loop
-returns c = rw (← c .before .list .ensures) (took-none _ _ (rw length-map (omega arith)))
+returns c = rw (← c .before .list .ensures) (none-mapped narrow (c .before .list .result .now) _ (omega arith))
 
 loop-holds : tie.Need-loop-holds Inv-loop μ-loop
 loop-holds c = (omega arith, omega arith, omega arith, put-none _ _)
@@ -58,8 +57,8 @@ loop-again c =
     let xs = s .before .before .list .result .now in
     let f = sfits-of {w = w64} {z = getD xs (s .loop .i) (pos 0)} (c .before .narrow-arg .given) in
     let g = sfits-of {w = w32} {z = c .narrow .result} (c .narrow .ok) in
-    let e = (simp (toZ-ofZ, f) at (c .narrow .ensures)) ∙ sym (getD-map narrow xs (s .loop .i) (pos 0) (pos 0) (omega arith)) in
-    (omega arith, omega arith, omega arith, put-more (s .loop .inv .3) _ (pos 0) (rw length-map (omega arith)) (rw length-map (omega arith)) (simp (toZ-ofZ, g) e))
+    let e = simp (toZ-ofZ, f) at (c .narrow .ensures) in
+    (omega arith, omega arith, omega arith, more-mapped narrow xs (s .loop .inv .3) _ (pos 0) (omega arith) (omega arith) (simp (toZ-ofZ, g) e))
 
 same-length : tie.Need-same-length Inv-loop μ-loop
 same-length c = omega arith
@@ -67,9 +66,7 @@ same-length c = omega arith
 returns-2 : tie.Need-returns-2 Inv-loop μ-loop
 returns-2 c =
     let s = c .before in
-    let xs = s .before .before .list .result .now in
-    rw (← s .before .before .list .ensures)
-    (rw (length-map xs narrow) at (took-all (map narrow xs) _ _ (rw length-map (omega arith)) (s .loop .inv .3 .kept) (put-all (s .loop .inv .3) (rw length-map (omega arith)))))
+    rw (← s .before .before .list .ensures) (all-mapped narrow (s .before .before .list .result .now) (s .loop .inv .3) (omega arith) (omega arith))
 
 pub key-spec : {M : Type 1} → statement M
 key-spec =

@@ -1,17 +1,16 @@
 -- `lent::words` copies a list's entries, each as a number of 32 bits from 0 up, to the front of a buffer that has room for them, and answers their count. The invariant:
 -- those passed stand there (`Put`); the measure is how many entries are left. Assumes nothing.
 use Prim.Native.Nat.{_≤_, _-_}
-use mathlib.Core.Path.{_≡_, sym, _∙_}
+use mathlib.Core.Path.{_≡_}
 use mathlib.Core.List.{map}
 use native.Mathlib.Omega.{arith}
 use lib.IntN.{pos}
-use lib.ListN.{length, getD, length-map}
+use lib.ListN.{length, getD}
 use mir.Facts.{toZ-ofZ}
 use mir.Syntax.{w64}
 use borrow.Author.Needs.{sfits-of}
-use Rattle.whole.specs.Lists.{getD-map}
-use Rattle.stream.specs.Front.{Put, put-none, put-more, put-all}
-use Rattle.replay.specs.Lent.{took-none, took-all}
+use Rattle.stream.specs.Front.{Put, put-none}
+use Rattle.replay.specs.Lent.{none-mapped, more-mapped, all-mapped}
 use Rattle.replay.specs.Width.{word}
 use Rattle.replay.proofs.lent.words.Statement.{statement}
 use Rattle.replay.proofs.lent.words.Tie as tie
@@ -26,7 +25,7 @@ list-requires : tie.Need-list-requires Inv-loop μ-loop
 list-requires c κs = tt
 
 returns : tie.Need-returns Inv-loop μ-loop
-returns c = rw (← c .before .list .ensures) (took-none _ _ (rw length-map (omega arith)))
+returns c = rw (← c .before .list .ensures) (none-mapped word (c .before .list .result .now) _ (omega arith))
 
 loop-holds : tie.Need-loop-holds Inv-loop μ-loop
 loop-holds c = (omega arith, omega arith, omega arith, put-none _ _)
@@ -57,8 +56,7 @@ loop-again c =
     let s = c .before .before .before in
     let xs = s .before .before .list .result .now in
     let f = sfits-of {w = w64} {z = getD xs (s .loop .i) (pos 0)} (c .before .word-arg .given) in
-    let e = (simp (toZ-ofZ, f) at (c .word .ensures)) ∙ sym (getD-map word xs (s .loop .i) (pos 0) 0 (omega arith)) in
-    (omega arith, omega arith, omega arith, put-more (s .loop .inv .3) _ 0 (rw length-map (omega arith)) (rw length-map (omega arith)) e)
+    (omega arith, omega arith, omega arith, more-mapped word xs (s .loop .inv .3) _ (pos 0) (omega arith) (omega arith) (simp (toZ-ofZ, f) at (c .word .ensures)))
 
 same-length : tie.Need-same-length Inv-loop μ-loop
 same-length c = omega arith
@@ -66,9 +64,7 @@ same-length c = omega arith
 returns-2 : tie.Need-returns-2 Inv-loop μ-loop
 returns-2 c =
     let s = c .before in
-    let xs = s .before .before .list .result .now in
-    rw (← s .before .before .list .ensures)
-    (rw (length-map xs word) at (took-all (map word xs) _ _ (rw length-map (omega arith)) (s .loop .inv .3 .kept) (put-all (s .loop .inv .3) (rw length-map (omega arith)))))
+    rw (← s .before .before .list .ensures) (all-mapped word (s .before .before .list .result .now) (s .loop .inv .3) (omega arith) (omega arith))
 
 pub words-spec : {M : Type 1} → statement M
 words-spec =
