@@ -30,14 +30,20 @@ from replay_batch import FULL, make_batch, unreadable_texts
 from replay_format import END, answered, line_of, spoken, written
 from replay_tally import Tally
 
-PROGRAM = Path(__file__).resolve().parent.parent / "target" / "bin" / "replay"
+ROOT = Path(__file__).resolve().parent.parent
+PROGRAM = ROOT / "target" / "bin" / "replay"
 PART = 500        # calls that the program is given at a time
 PROGRESS = 5000   # calls between two lines of progress
 
 
+def command(program):
+    """What starts a program, which is x86-64 code, on this machine."""
+    return [ROOT / "tools" / "x86", program]
+
+
 def answers_of(program, text):
     """The lines that the program answers to a text of calls."""
-    run = subprocess.run([program], input=text.encode(), stdout=subprocess.PIPE, check=True)
+    run = subprocess.run(command(program), input=text.encode(), stdout=subprocess.PIPE, check=True)
     return run.stdout.decode().splitlines(keepends=True)
 
 
