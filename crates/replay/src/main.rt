@@ -6,7 +6,7 @@ mod ciphers;
 mod circuits;
 mod files;
 mod gate;
-mod keys;
+mod key;
 mod lent;
 mod print;
 mod read;
@@ -26,10 +26,10 @@ fn answer(call: &[i64], text: &mut [u8], at: usize, long: &mut [i64]) -> usize
     match lent::word(call, 0) {
         1 => sets::make(call, text, at),
         2 => sets::sheet(call, text, at),
-        3 => keys::check_key(call, text, at),
-        4 => keys::make_switching_key(call, text, at, long),
-        5 => keys::check_bench_key(call, text, at),
-        6 => keys::make_bench_key(call, text, at),
+        3 => key::check_key(call, text, at),
+        4 => key::make_switching_key(call, text, at, long),
+        5 => key::check_bench_key(call, text, at),
+        6 => key::make_bench_key(call, text, at),
         7 => ciphers::encrypt(call, text, at),
         8 => ciphers::decrypt(call, text, at),
         9 => gate::xor(call, text, at),
