@@ -17,7 +17,7 @@ from files import buffer_length, random_file
 from gatfile import check_file, plan_file
 
 FOUND_BYTE = 0xA5
-PART = 2000  # files that the program is given at a time
+PART = 5000  # files that one run of the program is given
 CHECKED = (0, 1, 2, 9, 10, 11, 12)
 PLANNED = (0, 1, 2, 3, 9, 10, 11, 12)
 
@@ -60,7 +60,7 @@ def compare(words, seed, count):
             seen["check", int(answers[0]) >> 16] += 1
             seen["plan", int(answers[1]) >> 16] += 1
         done += len(cases)
-        if count > 3 * PART:
+        if count > 2 * PART:
             print(f"boundary: {done} of {count} files", file=sys.stderr, flush=True)
     return tell(seen, seed, count)
 
