@@ -1,58 +1,137 @@
 #!/usr/bin/env python3
-"""Holds docs/PROMISES.md against the crates: every function, must-fail edit, file and witness that it names exists, and it names every
-must-fail edit of the crates. Exit status 1 and a line for each fault otherwise.
+"""Holds docs/PROMISES.md against document 01 and against the crates. Exit status 1 and a line for each fault.
 
-    python3 tools/promises.py
+- Sentences: each sentence of document 01 has its row, with its number and its words, and the row names what holds it or says why it promises nothing.
+- Names: every function, must-fail edit, run, file, theorem and witness on the page exists, and the function has an `ensures`. Every must-fail edit of the crates
+  and every function that another crate can call is named.
+- Calls: a public call has no `requires`, and an equation for what it returns and for each buffer that it may write, by a definition that a file Unique has.
+- Engines: each engine that document 01 shuts out has its row, with an edit or a witness.
+- Code: every public function has an `ensures` that speaks of what it returns.
+
+    tools/promises.py           check
+    tools/promises.py --list    print the numbered sentences
 """
-import pathlib
 import re
 import sys
 
-ROOT = pathlib.Path(__file__).resolve().parent.parent
-CRATES = ROOT / "crates"
+import contracts
+from paper import CRATES, ROOT, SECTIONS, cells_of, is_rule, names, numbered, read, row_faults, section, undeclared
+
 CRATE = "|".join(sorted(path.name for path in CRATES.iterdir()))
+PATH = re.compile(rf"`({CRATE})::([\w:]+)`")
+EDIT = re.compile(rf"`((?:{CRATE})/[a-z0-9_]+)`")
+RUN = re.compile(r"`((?:boundary|examples|oracle|tools)/[\w.]+)`")
+WITNESS = re.compile(r"witness(?:es)? ((?:`[\w-]+`(?:, | and )?)+)")
+SHUT_OUT = "These are shut out: "
+READING = "## What holds each sentence"
 
 
-def read(path):
-    return path.read_text(encoding="utf-8")
+def table(page, heading):
+    """The rows of the table under a heading, without its head."""
+    lines = [cells_of(line) for line in section(page, heading).split("\n") if line.startswith("|")]
+    return [cells for cells in lines[1:] if not is_rule(cells)]
 
 
-def has_function(crate, path):
-    """Whether a crate has the function, in a module of that path or as a method of a type of its root, or a module of that name."""
-    *modules, name = path.split("::")
-    files = [CRATES / crate / "src" / root for root in ("lib.rt", "main.rt")]
-    if modules:
-        files.append(CRATES / crate / "src" / (modules[0] + ".rt"))
-    return any(file.exists() and re.search(rf"\bfn {name}\b|\bmod {name};", read(file)) for file in files)
+def path_faults(text):
+    for crate, path in PATH.findall(text):
+        function = contracts.find(crate, path)
+        if not function and not contracts.is_module(crate, path):
+            yield f"names {crate}::{path}, which is not there"
+        elif function and not function.ensures:
+            yield f"names {crate}::{path}, which has no ensures"
 
 
-def specs_text():
-    return "\n".join(read(path) for path in CRATES.glob("*/specs/*.antt"))
+def unnamed_faults(page):
+    named = [contracts.find(crate, path) for crate, path in PATH.findall(page)]
+    yield from (f"does not name {f.name} of {f.crate}/src/{f.file}.rt" for f in contracts.ALL if f.is_reached() and f not in named)
 
 
-def faults(page):
+def run_faults(text):
+    for path in RUN.findall(text):
+        if not (ROOT / path).exists() or path not in read("test"):
+            yield f"names {path}, which the tests do not run"
+
+
+def answer_faults(answer):
+    """What is wrong with that which is said to hold a sentence."""
+    if not (any(names(answer)) or any(pattern.search(answer) for pattern in (PATH, EDIT, RUN))):
+        yield "names no contract, theorem, edit or run"
+    yield from undeclared(answer)
+
+
+def edit_faults(page):
     edits = {f"{path.parent.parent.name}/{path.stem}" for path in CRATES.glob("*/must-fail/*.edit")}
-    named = set(re.findall(rf"`((?:{CRATE})/[a-z0-9_]+)`", page))
+    named = set(EDIT.findall(page))
     yield from (f"names the must-fail edit {name}, which is not there" for name in sorted(named - edits))
     yield from (f"does not name the must-fail edit {name}" for name in sorted(edits - named))
-    for crate, path in re.findall(rf"`({CRATE})::([\w:]+)`", page):
-        if not has_function(crate, path):
-            yield f"names {crate}::{path}, which is not there"
+
+
+def file_faults(page):
+    yield from undeclared(page.partition(READING)[0])
     for path in re.findall(rf"`((?:{CRATE})/(?:specs|src|proofs)/[\w/.]+)`", page):
         if not (CRATES / path).exists():
             yield f"names the file {path}, which is not there"
-    declared = specs_text()
-    for group in re.findall(r"witness(?:es)? ((?:`[\w-]+`(?:, | and )?)+)", page):
+
+
+def witness_faults(page):
+    specs = "\n".join(path.read_text(encoding="utf-8") for path in CRATES.glob("*/specs/*.antt"))
+    for group in WITNESS.findall(page):
         for name in re.findall(r"`([\w-]+)`", group):
-            if not re.search(rf"^pub {re.escape(name)} :", declared, re.M):
+            if not re.search(rf"^pub {re.escape(name)} :", specs, re.M):
                 yield f"names the witness {name}, which is not there"
 
 
+def promise_faults(call, unique):
+    """What a public call's promise lacks."""
+    if call.requires:
+        yield "has a requires"
+    for what in ["r"] * call.returns + [f"now ({buffer} .exit)" for buffer in call.lent]:
+        definition = call.definition_of(what)
+        if not definition:
+            yield f"has no equation for {what}"
+        elif not re.search(rf"≡ {re.escape(definition)}\b", unique):
+            yield f"gives {what} by {definition}, of which no file Unique speaks"
+
+
+def call_faults(page):
+    unique = "\n".join(path.read_text(encoding="utf-8") for path in CRATES.glob("*/specs/*.antt") if path.stem in ("Unique", "Promises"))
+    calls = [pair for cells in table(page, "Public calls of the engine") for pair in PATH.findall(cells[0])]
+    for crate, path in calls:
+        call = contracts.find(crate, path)
+        yield from (f"has the call {crate}::{path}, which {fault}" for fault in (promise_faults(call, unique) if call else ()))
+
+
+def engine_faults(page):
+    sentence = next(sentence for _, sentence in numbered() if sentence.startswith(SHUT_OUT))
+    shut_out = {cells[0]: cells[1] for cells in table(page, "Engines that are shut out")}
+    for engine in sentence.removeprefix(SHUT_OUT).rstrip(".").split("; "):
+        if not any(pattern.search(shut_out.get(engine, "")) for pattern in (EDIT, WITNESS)):
+            yield f"has no edit or witness for: {engine}"
+
+
+def code_faults():
+    for f in contracts.ALL:
+        if f.public and not (f.names_its_answer() if f.returns else f.ensures):
+            yield f"{f.crate}/src/{f.file}.rt: {f.name} has no promise on what it returns"
+
+
+def faults(page):
+    yield from row_faults(page, SECTIONS, answer_faults)
+    for judge in (path_faults, unnamed_faults, run_faults, edit_faults, file_faults, witness_faults, call_faults, engine_faults):
+        yield from (f"docs/PROMISES.md {fault}" for fault in judge(page))
+    yield from code_faults()
+
+
 def main():
-    found = list(faults(read(ROOT / "docs" / "PROMISES.md")))
+    sentences = list(numbered())
+    if "--list" in sys.argv:
+        for number, sentence in sentences:
+            print(number, sentence)
+        return 0
+    found = list(faults(read("docs/PROMISES.md")))
     for fault in found:
-        print(f"promises: docs/PROMISES.md {fault}")
-    print(f"promises: {len(found)} faults")
+        print("promises:", fault)
+    print(f"promises: {len(sentences)} sentences, {len(found)} faults")
     return 1 if found else 0
 
 

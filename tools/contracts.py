@@ -1,0 +1,59 @@
+"""The functions of the crates' sources, with their contracts."""
+import re
+from typing import NamedTuple
+
+from paper import CRATES
+
+FUNCTION = re.compile(
+    r'^ *(pub )?(?:extern "C" )?fn (\w+)\(([^)]*)\)(?: -> ([^\n{]+?))?(?: \{|((?:\n +(?:requires|ensures)\b[^\n]*)*)\n *\{)$', re.M)
+
+
+class Function(NamedTuple):
+    crate: str
+    file: str
+    public: bool
+    name: str
+    lent: list      # the buffers that it may write
+    returns: bool
+    requires: list
+    ensures: list
+
+    def is_reached(self):
+        """Whether another crate can call it: public, in a library's root or in a public module of it."""
+        root = CRATES / self.crate / "src" / "lib.rt"
+        return self.public and (self.file == "lib" or root.exists() and f"\npub mod {self.file};" in root.read_text(encoding="utf-8"))
+
+    def names_its_answer(self):
+        """Whether a line of its promise speaks of what it returns."""
+        return any(re.search(r"λ (\w+)\..*(?<!\w)\1(?!\w)", line) for line in self.ensures)
+
+    def definition_of(self, what):
+        """The definition that its promise equates with what it returns, `r`, or with a buffer at exit."""
+        found = re.search(rf"⌜ {re.escape(what)} ≡ ([\w-]+)", "\n".join(self.ensures))
+        return found and found[1]
+
+
+def functions():
+    for path in sorted(CRATES.glob("*/src/*.rt")):
+        text = path.read_text(encoding="utf-8")
+        found = FUNCTION.findall(text)
+        assert len(found) == len(re.findall(r"^ *(?:pub )?(?:extern .*)?fn ", text, re.M)), f"{path}: a function that is not read"
+        for public, name, lent, returned, contract in found:
+            lines = [line.strip() for line in contract.splitlines()]
+            yield Function(
+                path.parent.parent.name, path.stem, bool(public), name, re.findall(r"(\w+): &mut", lent), bool(returned),
+                [line for line in lines if line.startswith("requires")], [line for line in lines if line.startswith("ensures")])
+
+
+ALL = list(functions())
+
+
+def find(crate, path):
+    """The function of that path, in its module's file, or in the crate's root where the path has no module."""
+    *before, name = path.split("::")
+    files = [before[0]] if before and before[0].islower() else ["lib", "main"]
+    return next((f for f in ALL if f.crate == crate and f.name == name and f.file in files), None)
+
+
+def is_module(crate, path):
+    return (CRATES / crate / "src" / f"{path}.rt").exists()
