@@ -4,7 +4,7 @@ ghost use Rattle.whole.specs.Centred.{centred};
 ghost use Rattle.modular.specs.Loans.{Modulus};
 use crate::centre::centre;
 
-// A number modulo Q = q², in -Q/2 to Q/2-1. Every entry of a made switching key comes out of one.
+// A number modulo Q = q², in -Q/2 to Q/2-1. Every entry of row 0 of a made switching key comes out of one; the masks below it are as lent.
 pub struct BigResidue(i64);
 
 impl BigResidue {

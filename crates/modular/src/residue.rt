@@ -4,7 +4,7 @@ ghost use Rattle.modular.specs.Loans.{Modulus, Near};
 use crate::centre::centre;
 use crate::centre::one_turn;
 
-// A number modulo q, in -q/2 to q/2-1. Every entry that is written to a ciphertext comes out of one.
+// A number modulo q, in -q/2 to q/2-1. Every entry of a ciphertext that is worked out comes out of one; a mask's, and what NOT copies, is as lent.
 pub struct Residue(i64);
 
 impl Residue {
