@@ -1,109 +1,205 @@
 #!/usr/bin/env python3
-"""A mutation audit: makes small wrong edits, one operand or operator at a time, in the functions of the engine's crates, has the prover try each, and
-lists those that it still accepts.
+"""A mutation audit: makes small wrong edits, one operand or operator at a time, has the prover try each, and lists those that it still accepts.
 
     python3 tools/audit.py --list [CRATE...]                       prints the edits, one line each
-    python3 tools/audit.py --try FOLDER [--part K/N] [CRATE...]    tries them in a copy of the repository at FOLDER
+    python3 tools/audit.py --try FOLDER [--part K/N] [CRATE...]    tries them in a copy of the repository at FOLDER, which it makes where there is none
+    python3 tools/audit.py --page FOLDER...                        the tables of docs/AUDIT.md, from what was tried in those folders
 
-An edit exchanges < and <=, + and -, == and !=, & and |, makes a number one more, or takes another operand of the call's list for its neighbour. Comments,
-contracts and declarations are left alone. Each is tried as a must-fail edit by `rt must-fail`: refused, not refused (a survivor), or bad (it does not
-compile, and says nothing). The last lines are the counts and the survivors.
+With --definitions the edits are of the definitions that docs/DEFINITIONS.md names, and else of every function of the engine's crates.
+
+An edit exchanges < and <=, + and -, == and !=, & and |, * and +, / and %, makes a number one more or one less, takes one of two like operands for the
+other (left for right, c for d), exchanges two neighbours in a list of arguments, drops a `!`, writes another letter, or gives a row of a refusal list the
+number of the row beside it. Comments, contracts and declarations are left alone. Each edit is tried by itself, over what is kept of the last check, so
+that only what it touches is proved again. It is refused, or accepted, or does not compile and says nothing. One that is accepted is tried from nothing.
+
+A wrong definition is tried on the crates of definitions and theorems alone, so that what refuses it is a figure, a law or a theorem, and never the code,
+which would be as wrong.
 """
 import argparse
+import collections
 import pathlib
 import re
 import shutil
 import subprocess
 import sys
 
+import audit_edits
+
 ROOT = pathlib.Path(__file__).resolve().parent.parent
-ENGINE = ("modular", "keys", "regev", "circuit", "evaluation", "records", "gatfile")
+ENGINE = ("refusal", "modular", "keys", "regev", "circuit", "evaluation", "records", "gatfile")
+THEOREMS = ("whole", "refusal", "scheme", "noise", "circuit", "vouched")
+RESULTS = "audit.tsv"
+REFUSED, ACCEPTED, BAD = "refused", "accepted", "does not compile"
 
-OPERATORS = (
-    (r" < ", " <= "), (r" <= ", " < "), (r" \+ ", " - "), (r" - ", " + "), (r" == ", " != "), (r" != ", " == "), (r" & ", " | "), (r" \| ", " & "),
-    (r" \+= ", " -= "),
-)
-NUMBER = re.compile(r"(?<![\w.])(\d+)(?![\w.])")
-ARGUMENTS = re.compile(r"\b([a-z]\w*), ([a-z]\w*)(?=[,)])")
-SKIPPED = ("//", "ghost ", "use ", "pub use", "mod ", "pub mod", "requires", "ensures", "fn ", "pub fn", "pub extern", "const ", "pub const", "#[", "struct ", "pub struct")
+Tried = collections.namedtuple("Tried", "crate file line name old new verdict by")
 
 
-def body_lines(text):
-    """The lines of function bodies: neither comment, contract nor declaration."""
-    for line in text.splitlines():
-        bare = line.strip()
-        if line.startswith("    ") and bare and not bare.startswith(SKIPPED) and not re.match(r"\w+: [&\[\w]", bare) and not bare.startswith("pub "):
-            yield line
+# ---- trying
+
+def said(folder, *words):
+    run = subprocess.run(["rt", *words], cwd=folder, stdout=subprocess.PIPE, stderr=subprocess.STDOUT, text=True, check=False)
+    return run.stdout
 
 
-def variants(line):
-    """Every line that differs from this one in one operator, number or order of two arguments."""
-    for pattern, other in OPERATORS:
-        for found in re.finditer(pattern, line):
-            yield line[:found.start()] + other + line[found.end():]
-    for found in NUMBER.finditer(line):
-        yield line[:found.start()] + str(int(found.group(1)) + 1) + line[found.end():]
-    for found in ARGUMENTS.finditer(line):
-        if found.group(1) != found.group(2):
-            yield line[:found.start()] + f"{found.group(2)}, {found.group(1)}" + line[found.end():]
+class Code:
+    """Edits of functions, each tried on its own crate."""
+
+    crates = ENGINE
+
+    @staticmethod
+    def copied(folder):
+        shutil.copytree(ROOT, folder, ignore=shutil.ignore_patterns(".git", "must-fail"))
+
+    @staticmethod
+    def edits(folder, crate):
+        return audit_edits.of_code(folder, crate)
+
+    @staticmethod
+    def ready(folder, crate):
+        said(folder, "check", crate)
+        said(folder, "dev", crate)
+
+    @staticmethod
+    def verdict(folder, edit):
+        """The prover's verdict, and the first function that it could not prove."""
+        output = said(folder, "dev", edit.crate)
+        if "logic=proved" in output:
+            output = said(folder, "check", edit.crate)
+        if "logic=not-proved" in output:
+            unproved = re.search(r"^fn (\S+): not proved$", output, re.M)
+            return REFUSED, unproved[1] if unproved else ""
+        return (ACCEPTED if "logic=proved" in output else BAD), ""
 
 
-def edits_of(crate):
-    """(file, old line, new line) for each edit of a crate whose old line stands once in its file."""
-    for path in sorted((ROOT / "crates" / crate / "src").glob("*.rt")):
-        text = path.read_text(encoding="utf-8")
-        for line in body_lines(text):
-            if text.count(line) == 1:
-                for other in variants(line):
-                    yield path.name, line, other
+class Definitions:
+    """Edits of definitions, each tried on the crates of definitions and theorems, without any code."""
+
+    crates = THEOREMS
+
+    @staticmethod
+    def copied(folder):
+        """A copy of those crates in which no function and no proof of one is left."""
+        for crate in THEOREMS:
+            shutil.copytree(ROOT / "crates" / crate, folder / "crates" / crate, ignore=shutil.ignore_patterns("must-fail"))
+        shutil.copytree(ROOT / "docs", folder / "docs")
+        leans = dict(line.split(":") for line in (ROOT / "crates.txt").read_text().splitlines() if ":" in line and line[0] != "#")
+        lines = [f"{crate}: " + " ".join(d for d in leans[crate].split() if d in THEOREMS) for crate in THEOREMS]
+        (folder / "crates.txt").write_text("\n".join(lines) + "\n")
+        for path in folder.glob("crates/*/specs/*.antt"):
+            path.write_text(audit_edits.with_partners(path.read_text(encoding="utf-8")), encoding="utf-8")
+        shutil.rmtree(folder / "crates/circuit/proofs")
+        for path in (folder / "crates/circuit/src").glob("*.rt"):
+            kept = re.sub(r"^(pub )?mod \w+;\n", "", path.read_text(encoding="utf-8"), flags=re.M)
+            path.write_text(kept, encoding="utf-8") if path.name == "lib.rt" else path.unlink()
+
+    @staticmethod
+    def edits(folder, crate):
+        return audit_edits.of_definitions(folder, crate)
+
+    @staticmethod
+    def ready(folder, crate):
+        said(folder, "check")
+
+    @staticmethod
+    def verdict(folder, edit):
+        """The verdict, and every declaration that no longer holds in the first crate in which one does not."""
+        output = said(folder, "check")
+        if "rt: ok" in output:
+            return ACCEPTED, ""
+        found = re.findall(r"^\S*/crates/(\w+)/(?:specs|proofs)/(\S+)\.antt:\d+:\d+: error: `([^`]+)`", output, re.M)
+        broken = dict.fromkeys(f"{crate}/{file}: {name}" for crate, file, name in found)
+        if not broken or f"{edit.crate}/{edit.file[:-5]}: {edit.name}" in broken:
+            return BAD, ""
+        return REFUSED, "; ".join(broken)
 
 
-def written(folder, crates, part, parts):
-    """Puts the edits into the must-fail folders of a copy, in place of those that are there. Answers how many."""
-    for old in (folder / "crates").glob("*/must-fail"):
-        shutil.rmtree(old)
-    count = 0
+def tried(kind, folder, edit):
+    """The verdict on one edit. The text is as it was afterwards."""
+    path = folder / "crates" / edit.crate / edit.folder / edit.file
+    before = path.read_text(encoding="utf-8")
+    lines = before.split("\n")
+    lines[edit.line] = lines[edit.line].replace(edit.old, edit.new)
+    path.write_text("\n".join(lines), encoding="utf-8")
+    verdict = kind.verdict(folder, edit)
+    path.write_text(before, encoding="utf-8")
+    return Tried(edit.crate, edit.file, str(edit.line), edit.name, edit.old, edit.new, *verdict)
+
+
+def try_all(kind, folder, crates, part, parts):
+    """Tries each edit of its part that was not tried before, and keeps the results in the folder."""
+    if not folder.exists():
+        kind.copied(folder)
+    path = folder / RESULTS
+    path.touch()
+    known = {t[:6] for t in results(folder)}
     for crate in crates:
-        place = folder / "crates" / crate / "must-fail"
-        place.mkdir(parents=True, exist_ok=True)
-        for number, (name, old, new) in enumerate(edits_of(crate)):
-            if number % parts == part:
-                (place / f"e{number:04}.edit").write_text(f"# {name}\nfile: src/{name}\nold: {old}\nnew: {new}\n", encoding="utf-8")
-                count += 1
-    return count
+        kind.ready(folder, crate)
+        for number, edit in enumerate(list(kind.edits(folder, crate))):
+            if number % parts == part and (edit.crate, edit.file, str(edit.line), edit.name, edit.old, edit.new) not in known:
+                done = tried(kind, folder, edit)
+                with path.open("a", encoding="utf-8") as file:
+                    file.write("\t".join(done) + "\n")
+                print(f"{done.verdict}: {told(done)}  {done.by}", flush=True)
 
 
-def told(folder, output):
-    """The counts of rt's verdicts, and each survivor with its edit."""
-    verdicts = re.findall(r"^rt: must-fail (\w+)/(e\d+): (.*)$", output, re.M)
-    refused = [v for v in verdicts if v[2].startswith("refused")]
-    bad = [v for v in verdicts if v[2].startswith("BAD EDIT")]
-    survivors = [v for v in verdicts if v not in refused and v not in bad]
-    print(f"audit: {len(verdicts)} edits tried: {len(refused)} refused, {len(bad)} do not compile, {len(survivors)} accepted")
-    for crate, name, _ in survivors:
-        print((folder / "crates" / crate / "must-fail" / f"{name}.edit").read_text(encoding="utf-8").replace("\n", "  ").rstrip())
+# ---- telling
+
+def results(folder):
+    return [Tried(*line.split("\t")) for line in (folder / RESULTS).read_text(encoding="utf-8").splitlines()]
+
+
+def told(edit):
+    return f"{edit.crate}/{edit.file}:{int(edit.line) + 1} {edit.name}: {edit.old}  ->  {edit.new}"
+
+
+def counts(rows):
+    by = collections.Counter(t.verdict for t in rows)
+    return [len(rows), by[REFUSED], by[BAD], by[ACCEPTED]]
+
+
+def grouped(rows, key):
+    groups = collections.defaultdict(list)
+    for row in rows:
+        groups[key(row)].append(row)
+    return groups
+
+
+def table(rows):
+    """The counts, crate by crate."""
+    print("| crate | audited | edits | refused | do not compile | accepted |\n|---|---|---|---|---|---|")
+    for crate, of in [*grouped(rows, lambda t: f"`{t.crate}`").items(), ("all", rows)]:
+        print(f"| {crate} | {len({(t.crate, t.file, t.name) for t in of})} | " + " | ".join(f"{n:,}" for n in counts(of)) + " |")
+
+
+def page(rows):
+    """The counts, and every edit."""
+    table(rows)
+    print("\nR is refused, C does not compile, A is accepted.")
+    for name, of in grouped(rows, lambda t: f"{t.crate}/{t.file} {t.name}").items():
+        print(f"\n### {name}\n\n```")
+        for t in of:
+            print({REFUSED: "R", BAD: "C", ACCEPTED: "A"}[t.verdict] + f" {t.old}  →  {t.new}")
+        print("```")
 
 
 def main():
     parser = argparse.ArgumentParser(description="Small wrong edits, and what the prover says of each.")
     parser.add_argument("--list", action="store_true")
+    parser.add_argument("--definitions", action="store_true")
     parser.add_argument("--try", dest="folder", type=pathlib.Path)
+    parser.add_argument("--page", nargs="+", type=pathlib.Path)
     parser.add_argument("--part", default="0/1")
-    parser.add_argument("crates", nargs="*", default=ENGINE)
+    parser.add_argument("crates", nargs="*")
     given = parser.parse_args()
-    if given.folder is None:
-        for crate in given.crates:
-            for name, old, new in edits_of(crate):
-                print(f"{crate}/{name}: {old.strip()}  ->  {new.strip()}")
-        return 0
-    part, parts = map(int, given.part.split("/"))
-    if given.folder.exists():
-        sys.exit(f"audit: {given.folder} is there already")
-    shutil.copytree(ROOT, given.folder, ignore=shutil.ignore_patterns(".git"))
-    print(f"audit: {written(given.folder, given.crates, part, parts)} edits", flush=True)
-    run = subprocess.run(["rt", "must-fail", *given.crates], cwd=given.folder, stdout=subprocess.PIPE, stderr=subprocess.STDOUT, text=True, check=False)
-    (given.folder / "audit.log").write_text(run.stdout, encoding="utf-8")
-    told(given.folder, run.stdout)
+    kind = Definitions if given.definitions else Code
+    crates = given.crates or kind.crates
+    if given.page:
+        page([t for folder in given.page for t in results(folder)])
+    elif given.folder:
+        try_all(kind, given.folder, crates, *map(int, given.part.split("/")))
+    else:
+        for edit in (e for crate in crates for e in kind.edits(ROOT, crate)):
+            print(told(edit))
     return 0
 
 
