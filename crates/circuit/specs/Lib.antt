@@ -5,5 +5,5 @@ pub mod Records
 pub mod Wires
 pub mod Answers
 pub mod Agree
-pub mod Wording
+pub mod Lowest
 pub mod Example

@@ -62,10 +62,17 @@ abbrev pub Applies : List Row → ℕ → Type 0
 Applies [] k = ⊥
 Applies (r ∷ rows) k = ((r .applies ≡ true) × (r .number ≡ k)) ⊎ Applies rows k
 
+-- no row applies
+abbrev pub Clear : List Row → Type 0
+Clear [] = Unit {0}
+Clear (r ∷ rows) = (r .applies ≡ false) × Clear rows
+
 -- k is the lowest number that applies, and 0 exactly when none does
 pub record Lowest (rows : List Row) (k : ℕ) : Type 0 where
   pub given : k ≢ 0 → Applies rows k
-  pub lowest : (j : ℕ) → Applies rows j → (0 < k) × (k ≤ j)
+  pub lowest : (j : ℕ) → Applies rows j → k ≤ j
+  pub done : k ≡ 0 → Clear rows
+  pub clear : Clear rows → k ≡ 0
 
 above : (rows : List Row) (k j : ℕ) → rising k rows ≡ true → Applies rows j → k < j
 unfolding rising
@@ -77,7 +84,7 @@ above (r ∷ rows) k j up a =
 
 pub first-lowest : (rows : List Row) (k : ℕ) → rising k rows ≡ true → Lowest rows (firstOf rows)
 unfolding firstOf rising
-first-lowest [] k up = record { given = λ h. absurd (h refl); lowest = λ j a. absurd a }
+first-lowest [] k up = record { given = λ h. absurd (h refl); lowest = λ j a. absurd a; done = λ e. tt; clear = λ c. refl }
 first-lowest (r ∷ rows) k up = by-test (r .applies) refl (first-lowest rows (r .number) rest-up)
   where
     rest-up : rising (r .number) rows ≡ true
@@ -90,41 +97,49 @@ first-lowest (r ∷ rows) k up = by-test (r .applies) refl (first-lowest rows (r
     by-test true e l =
         record {
           given = λ h. inl (e, refl);
-          lowest = λ j a. (omega (arith, positive), ⊎-elim (λ here. le-of-eq (here .1)) (λ there. le-of-lt (above rows (r .number) j rest-up there)) a);
+          lowest = λ j a. ⊎-elim (λ here. le-of-eq (here .1)) (λ there. le-of-lt (above rows (r .number) j rest-up there)) a;
+          done = λ z. absurd (omega (arith, positive, z));
+          clear = λ c. clash e (c .0);
         }
     by-test false e l =
         record {
           given = λ h. inr (l .given h);
           lowest = λ j a. ⊎-elim (λ here. clash (here .0) e) (λ there. l .lowest j there) a;
+          done = λ z. (e, l .done z);
+          clear = λ c. l .clear (c .1);
         }
 
--- ---- what a number tells
-
--- no row applies
-abbrev pub Clear : List Row → Type 0
-Clear [] = Unit {0}
-Clear (r ∷ rows) = (r .applies ≡ false) × Clear rows
-
--- number 0 means that every test is false, where no row has the number 0
-pub first-zero : {rows : List Row} → Each (λ r. 0 < r .number) rows → firstOf rows ≡ 0 → Clear rows
-unfolding firstOf
-first-zero nil e = tt
-first-zero (cons {x = r} {xs = rows} b up) e = by-test (r .applies) refl e (first-zero up)
-  where
-    by-test : (t : Bool) → r .applies ≡ t → cond t (r .number) (firstOf rows) ≡ 0 → (firstOf rows ≡ 0 → Clear rows) → Clear (r ∷ rows)
-    by-test true f z later = absurd (omega (arith, b))
-    by-test false f z later = (f, later z)
-
-rising-above : (rows : List Row) (k : ℕ) → rising k rows ≡ true → Each (λ r. 0 < r .number) rows
-unfolding rising
-rising-above [] k up = nil
-rising-above (r ∷ rows) k up =
-    let here : k < r .number = ltb-true k (r .number) (and-left (ltb k (r .number)) (rising (r .number) rows) up) in
-    let above : 0 < r .number = omega (arith, here) in
-    cons above (rising-above rows (r .number) (and-right (ltb k (r .number)) (rising (r .number) rows) up))
-
 pub first-clear : (rows : List Row) (k : ℕ) → rising k rows ≡ true → firstOf rows ≡ 0 → Clear rows
-first-clear rows k up e = first-zero (rising-above rows k up) e
+first-clear rows k up e = first-lowest rows k up .done e
+
+-- ---- rows in an order of their own: the first that applies, whatever the numbers
+
+-- the first row that applies has the number k
+abbrev pub FirstApplies : List Row → ℕ → Type 0
+FirstApplies [] k = ⊥
+FirstApplies (r ∷ rows) k = ((r .applies ≡ true) × (r .number ≡ k)) ⊎ ((r .applies ≡ false) × FirstApplies rows k)
+
+-- k is the number of the first row that applies, and 0 exactly when none does
+pub record First (rows : List Row) (k : ℕ) : Type 0 where
+  pub given : k ≢ 0 → FirstApplies rows k
+  pub done : k ≡ 0 → Clear rows
+  pub clear : Clear rows → k ≡ 0
+
+-- where no row has the number 0
+pub first-given : {rows : List Row} → Each (λ r. 0 < r .number) rows → First rows (firstOf rows)
+unfolding firstOf
+first-given nil = record { given = λ h. absurd (h refl); done = λ e. tt; clear = λ c. refl }
+first-given (cons {x = r} {xs = rows} b up) = by-test (r .applies) refl (first-given up)
+  where
+    by-test : (t : Bool) → r .applies ≡ t → First rows (firstOf rows) → First (r ∷ rows) (cond t (r .number) (firstOf rows))
+    by-test true e f = record { given = λ h. inl (e, refl); done = λ z. absurd (omega (arith, b, z)); clear = λ c. clash e (c .0) }
+    by-test false e f = record { given = λ h. inr (e, f .given h); done = λ z. (e, f .done z); clear = λ c. f .clear (c .1) }
+
+-- number 0 means that every test is false
+pub first-zero : {rows : List Row} → Each (λ r. 0 < r .number) rows → firstOf rows ≡ 0 → Clear rows
+first-zero up e = first-given up .done e
+
+-- ---- what a number tells
 
 -- one row after the other
 pub first-row : (k : ℕ) (t : Bool) (rows : List Row) → firstOf (row k t ∷ rows) ≡ cond t k (firstOf rows)

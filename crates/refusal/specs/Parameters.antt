@@ -13,7 +13,7 @@ use Rattle.refusal.specs.declared.Refusal.{Refusal}
 use Rattle.refusal.specs.declared.Params.{Params}
 use Rattle.refusal.specs.declared.Made.{Made}
 use Rattle.refusal.specs.declared.Made.the-variants.{Set, Refused}
-use Rattle.refusal.specs.First.{Row, row, firstOf, doneOr}
+use Rattle.refusal.specs.First.{Row, row, firstOf, doneOr, rising, Lowest, first-lowest}
 
 abbrev pub params : ℕ → ℕ → ℕ → ℕ → ℕ → Params
 params n q l e f = record { n = n; q = q; l = l; e = e; f = f }
@@ -111,6 +111,15 @@ pub answered-params : (k : ℕ) (p : Params) → madeParams (answered k p) ≡ d
 unfolding madeParams answered doneOr
 answered-params zero p = refl
 answered-params (suc k) p = refl
+
+-- the number is the lowest that applies, and 0 exactly when none does
+pub make-lowest : (p : Params) → Lowest (row 1 (not (inRange p)) ∷ []) (madeNumber (made p))
+unfolding made makeNumber rising
+make-lowest p = rw answered-number (first-lowest (row 1 (not (inRange p)) ∷ []) 0 refl)
+
+pub sheet-lowest : (k : ℕ) → Lowest (row 1 (not (ltb k (length sheets))) ∷ []) (madeNumber (madeSheet k))
+unfolding madeSheet sheetNumber rising
+sheet-lowest k = rw answered-number (first-lowest (row 1 (not (ltb k (length sheets))) ∷ []) 0 refl)
 
 -- the maker's two answers, and the sheet's
 pub made-set : (p : Params) → inRange p ≡ true → made p ≡ Set p

@@ -4,6 +4,7 @@ pub mod Passed
 pub mod Figures
 pub mod Ties
 pub mod Wording
+pub mod Lowest
 pub mod Slips
 pub mod Unique
 pub mod Witnesses

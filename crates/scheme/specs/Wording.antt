@@ -1,6 +1,5 @@
 -- Where a definition is not at once the sentence of document 01, a fact that shows that it is: the range of a residue, the
--- places u·n+v of the tensor and i·n²+j of the switching key, that what XOR, NOT and AND make is n residues again, and that the number given by each
--- call is the lowest that applies.
+-- places u·n+v of the tensor and i·n²+j of the switching key, and that what XOR, NOT and AND make is n residues again.
 use mathlib.Core.Path.{_≡_, refl, sym, ap, _∙_}
 use mathlib.Core.Bool.{Bool, true}
 use mathlib.Core.List.{List, [], _∷_, map, zipWith}
@@ -18,10 +17,7 @@ use Rattle.whole.specs.Centred.{Centred, centred, centred-is, centred-id}
 use Rattle.whole.specs.Round.{round}
 use Rattle.whole.specs.Lists.{all, all-map, each-all, each-map, each-always, length-zipWith, map-zipWith, grid, map-grid, length-grid, getD-grid, getD-map, cut, length-cut, getD-cut-entry, tabulate, length-tabulate, getD-tabulate}
 use Rattle.whole.specs.Inner.{inner, column}
-use Rattle.refusal.specs.declared.Params.{Params}
-use Rattle.refusal.specs.First.{rising}
 use Rattle.scheme.specs.Arithmetic.{half, isResidue, XOR-bound, NOT-bound, tensorEntry, tensor, keyRows, maskColumn, rowZeroEntry, switchingKey, XOR, NOT, switchEntry, switch, AND}
-use Rattle.scheme.specs.Calls.{keyCheckRows, makeKeyRows, benchRows, encryptRows, decryptRows, xorRows, notRows, andRows}
 
 -- ---- residues
 
@@ -166,21 +162,3 @@ pub and-residues : (n q : ℕ) (W c d : List ℤ) → 0 < q → q ≡ 2 * (q / 2
 unfolding AND switch switchEntry
 and-residues n q W c d h even =
     each-all (each-map (switchEntry q (tensor q c d)) (each-always (λ row. centred-residue q (round (inner (tensor q c d) row) q) h even) (keyRows n W)))
-
--- ---- the lowest number that applies
-
--- the rows of every call rise, so that `first-lowest` holds of each
-pub rows-rise : (p : Params) (s masks f a c d W : List ℤ) (b B1 B2 scratch result : ℕ) (e : ℤ)
-    → all (rising 0)
-    (keyCheckRows p s
-    ∷ makeKeyRows p s masks f result
-    ∷ benchRows s masks f
-    ∷ encryptRows p s b a e result
-    ∷ decryptRows p s c
-    ∷ xorRows p c B1 d B2 result
-    ∷ notRows p c B1 result
-    ∷ andRows p c B1 d B2 W scratch result
-    ∷ [])
-    ≡ true
-unfolding all rising keyCheckRows makeKeyRows benchRows encryptRows decryptRows xorRows notRows andRows
-rows-rise p s masks f a c d W b B1 B2 scratch result e = refl
