@@ -6,4 +6,5 @@ pub mod Wires
 pub mod Answers
 pub mod Agree
 pub mod Lowest
+pub mod Unread
 pub mod Example

@@ -43,15 +43,15 @@ W = − 35 ∷ pos 164 ∷ pos 57 ∷ pos 63 ∷ four (pos 100) (− 100) (pos 7
 abbrev gates : List Gate
 gates = gate 1 0 1 ∷ gate 2 2 0 ∷ gate 0 3 0 ∷ []
 
--- the inputs are encryptions of 1 with masks 3 and -20, errors 1 and -1; the rest of each buffer may hold anything
+-- the inputs are encryptions of 1 with masks 3 and -20, errors 1 and -1; the gates' stretches and scratch hold 99, which is outside the range of q = 64
 abbrev wires : List ℤ
-wires = pos 30 ∷ pos 3 ∷ − 13 ∷ − 20 ∷ pos 9 ∷ pos 9 ∷ pos 9 ∷ pos 9 ∷ pos 9 ∷ pos 9 ∷ []
+wires = pos 30 ∷ pos 3 ∷ − 13 ∷ − 20 ∷ pos 99 ∷ pos 99 ∷ pos 99 ∷ pos 99 ∷ pos 99 ∷ pos 99 ∷ []
 
 abbrev Bs : List ℕ
 Bs = 1 ∷ 1 ∷ 7 ∷ 7 ∷ 7 ∷ []
 
 abbrev scratch : List ℤ
-scratch = four (pos 9) (pos 9) (pos 9) (pos 9)
+scratch = four (pos 99) (pos 99) (pos 99) (pos 99)
 
 abbrev bits : List ℕ
 bits = 1 ∷ 1 ∷ []

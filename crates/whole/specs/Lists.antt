@@ -459,6 +459,22 @@ module _ {ℓ} {A : Type ℓ} where
       let g : k * n + n ≤ length xs = rw suc-mul at h in
       cons (length-take-le n xs (omega arith)) (each-cut n k (drop n xs) (omega (arith, length-drop n xs)))
 
+  cut-from : (n k i m : ℕ) (xs : List A) → i + k * n ≤ m → cut n k (drop i (take m xs)) ≡ cut n k (drop i xs)
+  unfolding cut
+  cut-from n zero i m xs h = refl
+  cut-from n (suc k) i m xs h =
+      let g : i + (k * n + n) ≤ m = rw suc-mul at h in
+      ap₂ {C = List (List A)} _∷_ (part-take i n m xs (omega arith))
+      (ap (cut n k) (drop-drop n i (take m xs)) ∙ cut-from n k (i + n) m xs (omega arith) ∙ ap (cut n k) (sym (drop-drop n i xs)))
+
+  -- lists with the same first k·n entries have the same rows
+  pub cut-same : (n k : ℕ) (xs ys : List A) → take (k * n) xs ≡ take (k * n) ys → cut n k xs ≡ cut n k ys
+  cut-same n k xs ys e =
+      sym (from-start xs) ∙ ap (cut n k) e ∙ from-start ys
+    where
+      from-start : (zs : List A) → cut n k (take (k * n) zs) ≡ cut n k zs
+      from-start zs = cut-from n k 0 (k * n) zs (omega arith)
+
   -- the rows joined are the first k·n entries
   pub flatten-cut-take : (n k : ℕ) (xs : List A) → flatten (cut n k xs) ≡ take (k * n) xs
   unfolding cut flatten
