@@ -1,17 +1,29 @@
 -- The numeric core is planning and evaluation of the gate records: where the three lists have one length, what it answers and leaves of the lists
 -- is what planning and evaluation answer and leave of the records.
 use mathlib.Core.Path.{_≡_}
-use mathlib.Core.Bool.{false}
+use mathlib.Core.Bool.{Bool, false}
 use mathlib.Core.List.{List}
 use Prim.Native.Nat.{ℕ}
 use lib.IntN.{ℤ}
 use lib.ListN.{length}
-use Rattle.whole.specs.Tests.{or-neither}
+use Rattle.whole.specs.Tests.{or-left, or-right, or-neither}
 use Rattle.refusal.specs.declared.Params.{Params}
-use Rattle.scheme.specs.Passed.{lengths-same}
+use Rattle.scheme.specs.Calls.{differs}
+use Rattle.scheme.specs.Passed.{length-is, lengths-same}
 use Rattle.circuit.specs.Circuits.{planRows, planAnswer, planBounds, evaluateRows, evaluateAnswer, evaluateWires, evaluateBounds, evaluateScratch}
 use Rattle.circuit.specs.Core.{records, uneven, planCoreRows, planCoreAnswer, planCoreBounds, evaluateCoreRows, evaluateCoreAnswer, evaluateCoreWires, evaluateCoreBounds, evaluateCoreScratch}
 use Rattle.circuit.specs.Records.{length-records}
+
+-- the three lists have one length
+abbrev pub Even : List ℕ → List ℕ → List ℕ → Type 0
+Even ks ls rs = (length ls ≡ length ks) × (length rs ≡ length ks)
+
+pub even-lengths : (ks ls rs : List ℕ) → uneven ks ls rs ≡ false → Even ks ls rs
+unfolding uneven
+even-lengths ks ls rs e =
+    let lefts : Bool = differs (length ls) (length ks) in
+    let rights : Bool = differs (length rs) (length ks) in
+    (length-is (length ls) (length ks) (or-left lefts rights e), length-is (length rs) (length ks) (or-right lefts rights e))
 
 module _ (p : Params) (inputs : ℕ) (ks ls rs : List ℕ) (lefts : length ls ≡ length ks) (rights : length rs ≡ length ks) where
   even : uneven ks ls rs ≡ false
@@ -21,7 +33,7 @@ module _ (p : Params) (inputs : ℕ) (ks ls rs : List ℕ) (lefts : length ls �
   -- ---- planning
 
   module _ (Bs : List ℕ) where
-    plan-rows : planCoreRows p inputs ks ls rs Bs ≡ planRows p inputs (records ks ls rs) Bs
+    pub plan-rows : planCoreRows p inputs ks ls rs Bs ≡ planRows p inputs (records ks ls rs) Bs
     unfolding planCoreRows planRows
     plan-rows = rw (even, length-records)
 
@@ -35,7 +47,7 @@ module _ (p : Params) (inputs : ℕ) (ks ls rs : List ℕ) (lefts : length ls �
 
   -- ---- evaluation
 
-  evaluate-rows : (wires : List ℤ) (Bs : List ℕ) (W : List ℤ) (scratch : ℕ)
+  pub evaluate-rows : (wires : List ℤ) (Bs : List ℕ) (W : List ℤ) (scratch : ℕ)
       → evaluateCoreRows p inputs ks ls rs wires Bs W scratch ≡ evaluateRows p inputs (records ks ls rs) wires Bs W scratch
   unfolding evaluateCoreRows evaluateRows
   evaluate-rows wires Bs W scratch = rw (even, length-records)

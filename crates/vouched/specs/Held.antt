@@ -1,21 +1,26 @@
 -- The proof of demand 3 (the file Demand3): the inputs are sound, each gate that is neither wrong nor over the budget keeps that, and so all wires
 -- are; a sound wire decrypts to its bit.
 use mathlib.Core.Path.{_≡_, refl, sym, ap, _∙_}
+use mathlib.Core.Bool.{false}
 use mathlib.Core.List.{List, [], flatten}
 use Prim.Native.Nat.{ℕ, _+_, _<_}
 use native.Mathlib.Omega.{arith}
 use lib.IntN.{ℤ}
 use lib.ListN.{length, getD, take}
 use lib.Seq.{getD-take}
+use Rattle.whole.specs.Tests.{or-left, or-right}
 use Rattle.whole.specs.Lists.{each-getD, getD-each, cut, length-cut, getD-cut, getD-flatten}
 use Rattle.refusal.specs.declared.Params.{Params}
 use Rattle.refusal.specs.declared.Refusal.{Refusal}
-use Rattle.refusal.specs.First.{firstOf, doneOr-done}
+use Rattle.refusal.specs.First.{firstOf, Clear, doneOr-done}
 use Rattle.circuit.specs.declared.Gate.{Gate}
 use Rattle.circuit.specs.Circuits.{gateBit, gateBound, gateWire, boundsOf, wiresOf, bitsOf, evaluateRows, evaluateAnswer, evaluateWires, evaluateBounds}
-use Rattle.circuit.specs.Core.{gate}
+use Rattle.circuit.specs.Core.{gate, records, uneven, evaluateCoreRows}
+use Rattle.circuit.specs.Records.{length-records}
+use Rattle.circuit.specs.Agree.{even-lengths, evaluate-answer-agrees, evaluate-wires-agrees, evaluate-bounds-agrees, evaluate-scratch-agrees}
+use Rattle.circuit.specs.Lowest.{evaluateCore-lowest}
 use Rattle.circuit.specs.Run.{length-run}
-use Rattle.vouched.specs.Demand3.{wireAt, Premises, Vouched, Demand3}
+use Rattle.vouched.specs.Demand3.{wireAt, Premises, Vouched, Demand3, Demand3Core}
 use Rattle.vouched.specs.Three.{Alike, three-runs}
 use Rattle.vouched.specs.Sound.{key-fits, Sound, sound-decrypts, gate-keeps}
 use Rattle.vouched.specs.Accepted.{Accepted, accepted, stated-long, stated-fits, input-long, input-residues, operands-below, gate-fits}
@@ -74,3 +79,20 @@ demand-3 p inputs gates wires Bs W scratch s bits r out outBs cleared given prom
     let sound = wires-sound given a j inside in
     rw (promise .1, promise .2, doneOr-done (flatten cs) wires done, doneOr-done (boundsOf p gates (take inputs Bs)) Bs done, wire-at given a j inside)
     (record { quiet = sound .quiet; fits = sound .fits; decrypts = sound-decrypts p s (key-fits p s (given .key)) sound })
+
+-- ---- over three slices, which have one length where the number is 0
+
+pub demand-3-core : Demand3Core
+unfolding evaluateCoreRows
+demand-3-core p inputs ks ls rs wires Bs W scratch s bits r out outBs cleared given promise none j inside =
+    let clear : Clear (evaluateCoreRows p inputs ks ls rs wires Bs W (length scratch)) =
+    evaluateCore-lowest p inputs ks ls rs wires Bs W (length scratch) .done (sym (ap (λ (x : Refusal). x .number) (promise .0)) ∙ none) in
+    let even : uneven ks ls rs ≡ false = search (or-left, or-right) depth 8 in
+    let (lefts, rights) = even-lengths ks ls rs even in
+    demand-3 p inputs (records ks ls rs) wires Bs W scratch s bits r out outBs cleared given (
+      promise .0 ∙ evaluate-answer-agrees p inputs ks ls rs lefts rights wires Bs W (length scratch),
+      promise .1 ∙ evaluate-wires-agrees p inputs ks ls rs lefts rights wires Bs W scratch,
+      promise .2 ∙ evaluate-bounds-agrees p inputs ks ls rs lefts rights wires Bs W scratch,
+      promise .3 ∙ evaluate-scratch-agrees p inputs ks ls rs lefts rights wires Bs W scratch,
+    )
+    none j (omega (arith, length-records ks ls rs lefts rights))
