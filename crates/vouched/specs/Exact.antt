@@ -1,5 +1,6 @@
 -- Refusal for the budget is exact, in planning and in evaluation alike: where no number below 10 applies, the number is 10 exactly when some
--- gate's bound by the formula does not fit, and the place is the first such gate. Otherwise it is 0. And the two calls agree.
+-- gate's bound by the formula does not fit, and the place is the first such gate. Otherwise it is 0. And the two calls agree. Over gate records,
+-- and over the core's three lists, which have one length where no number below 10 applies.
 use mathlib.Core.Path.{_≡_, refl, sym, ap, _∙_}
 use mathlib.Core.Logic.{inl, inr}
 use mathlib.Core.Bool.{Bool, true, false, cond}
@@ -22,6 +23,8 @@ use Rattle.scheme.specs.Calls.{overBudget}
 use Rattle.scheme.specs.Passed.{bound-fits, bound-over, above-over, length-is}
 use Rattle.circuit.specs.declared.Gate.{Gate}
 use Rattle.circuit.specs.Circuits.{boundsOf, overGates, gateRows, placeOf, planRows, planAnswer, planBounds, evaluateRows, evaluateAnswer, evaluateBounds}
+use Rattle.circuit.specs.Core.{records, uneven, planCoreRows, planCoreAnswer, evaluateCoreRows, evaluateCoreAnswer}
+use Rattle.circuit.specs.Agree.{Even, even-lengths, plan-rows, plan-answer-agrees, evaluate-rows, evaluate-answer-agrees}
 use Rattle.circuit.specs.Records.{length-overGates, getD-overGates}
 
 -- ---- the statements
@@ -52,7 +55,7 @@ pub record Exact (p : Params) (inputs : ℕ) (gates : List Gate) (Bs : List ℕ)
 -- ---- rows
 
 -- where no number below k applies, no row in front does, whose numbers are below k
-clear-front : (k : ℕ) (front rest : List Row) → all (λ r. ltb (r .number) k) front ≡ true → NoneBelow k (front ++ rest) → Clear front
+pub clear-front : (k : ℕ) (front rest : List Row) → all (λ r. ltb (r .number) k) front ≡ true → NoneBelow k (front ++ rest) → Clear front
 unfolding all
 clear-front k [] rest low none = tt
 clear-front k (r ∷ front) rest low none =
@@ -63,7 +66,7 @@ clear-front k (r ∷ front) rest low none =
     by-test false e = refl
 
 -- the place is that of a test, where some test is true
-place-inside : (ts : List Bool) → someTrue ts ≡ true → firstTrue ts < length ts
+pub place-inside : (ts : List Bool) → someTrue ts ≡ true → firstTrue ts < length ts
 place-inside ts e = by-place (decLt (firstTrue ts) (length ts))
   where
     by-place : Dec (firstTrue ts < length ts) → firstTrue ts < length ts
@@ -73,7 +76,7 @@ place-inside ts e = by-place (decLt (firstTrue ts) (length ts))
 -- ---- the answer where only the budget is left
 
 -- the answer with the number k
-abbrev answer : Params → ℕ → List Gate → List ℕ → ℕ → Refusal
+abbrev pub answer : Params → ℕ → List Gate → List ℕ → ℕ → Refusal
 answer p inputs gates Bs k = refused k (placeOf p inputs gates (take inputs Bs) k)
 
 -- k is the number of row 10 alone, and there is a stated bound for each input
@@ -162,3 +165,37 @@ module _ (p : Params) (inputs : ℕ) (gates : List Gate) (wires : List ℤ) (Bs 
   plan-agrees clear =
       let same = plan-settled p inputs gates Bs clear .number ∙ sym (evaluate-settled .number) in
       (ap (answer p inputs gates Bs) same, ap (λ k. doneOr k (boundsOf p gates (take inputs Bs)) Bs) same)
+
+-- ---- over three lists
+
+module _ (ks ls rs : List ℕ) where
+  even-unless : ¬ (uneven ks ls rs ≡ true) → Even ks ls rs
+  even-unless h = by-test (uneven ks ls rs) refl
+    where
+      by-test : (t : Bool) → uneven ks ls rs ≡ t → Even ks ls rs
+      by-test true e = absurd (h e)
+      by-test false e = even-lengths ks ls rs e
+
+  module _ (p : Params) (inputs : ℕ) (Bs : List ℕ) where
+    -- they have one length where 3 does not apply
+    pub plan-even : (k : ℕ) → 3 < k → NoneBelow k (planCoreRows p inputs ks ls rs Bs) → Even ks ls rs
+    unfolding planCoreRows
+    plan-even k h none = even-unless (λ e. none 3 h (inr (inr (inl (rw e, refl)))))
+
+    pub planCore-exact : NoneBelow 10 (planCoreRows p inputs ks ls rs Bs) → Exact p inputs (records ks ls rs) Bs (planCoreAnswer p inputs ks ls rs Bs)
+    planCore-exact none =
+        let (lefts, rights) = plan-even 10 (omega arith) none in
+        rw (plan-answer-agrees p inputs ks ls rs lefts rights Bs)
+        (plan-exact p inputs (records ks ls rs) Bs (rw (plan-rows p inputs ks ls rs lefts rights Bs) at none))
+
+    module _ (wires W scratch : List ℤ) where
+      pub evaluate-even : (k : ℕ) → 3 < k → NoneBelow k (evaluateCoreRows p inputs ks ls rs wires Bs W (length scratch)) → Even ks ls rs
+      unfolding evaluateCoreRows
+      evaluate-even k h none = even-unless (λ e. none 3 h (inr (inr (inl (rw e, refl)))))
+
+      pub evaluateCore-exact : NoneBelow 10 (evaluateCoreRows p inputs ks ls rs wires Bs W (length scratch))
+          → Exact p inputs (records ks ls rs) Bs (evaluateCoreAnswer p inputs ks ls rs wires Bs W (length scratch))
+      evaluateCore-exact none =
+          let (lefts, rights) = evaluate-even 10 (omega arith) none in
+          rw (evaluate-answer-agrees p inputs ks ls rs lefts rights wires Bs W (length scratch))
+          (evaluate-exact p inputs (records ks ls rs) wires Bs W scratch (rw (evaluate-rows p inputs ks ls rs lefts rights wires Bs W (length scratch)) at none))

@@ -5,5 +5,6 @@ pub mod Sound
 pub mod Accepted
 pub mod Held
 pub mod Exact
+pub mod Wrong
 pub mod Witness
 pub mod Unique
