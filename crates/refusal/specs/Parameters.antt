@@ -1,5 +1,5 @@
 -- Document 01, *Parameters*: the ranges of n, q, L, E and F, the six house sheets, and what the maker of a set answers.
-use mathlib.Core.Path.{_≡_, refl, ap}
+use mathlib.Core.Path.{_≡_, refl, ap, _∙_}
 use mathlib.Core.Bool.{Bool, true, false, not, _&&_}
 use mathlib.Core.List.{List, [], _∷_, map}
 use Prim.Native.Nat.{ℕ, zero, suc, _+_, _*_, _/_, _%_, _≤_, _<_}
@@ -111,6 +111,21 @@ pub answered-params : (k : ℕ) (p : Params) → madeParams (answered k p) ≡ d
 unfolding madeParams answered doneOr
 answered-params zero p = refl
 answered-params (suc k) p = refl
+
+-- the enum that is answered, and beside it its number, place and parameters
+abbrev pub Values : ℕ → Params → Made → Type 0
+Values k p r = (r ≡ answered k p) × ((madeNumber r ≡ k) × ((madePlace r ≡ 0) × (madeParams r ≡ doneOr k p noParams)))
+
+values : (k : ℕ) (p : Params) {r : Made} → r ≡ answered k p → Values k p r
+values k p e = (e, (ap madeNumber e ∙ answered-number k p, (ap madePlace e ∙ answered-place k p, ap madeParams e ∙ answered-params k p)))
+
+pub made-values : (p : Params) {r : Made} → r ≡ made p → Values (makeNumber p) p r
+unfolding made
+made-values p e = values (makeNumber p) p e
+
+pub sheet-values : (k : ℕ) {r : Made} → r ≡ madeSheet k → Values (sheetNumber k) (sheet k) r
+unfolding madeSheet
+sheet-values k e = values (sheetNumber k) (sheet k) e
 
 -- the number is the lowest that applies, and 0 exactly when none does
 pub make-lowest : (p : Params) → Lowest (row 1 (not (inRange p)) ∷ []) (madeNumber (made p))

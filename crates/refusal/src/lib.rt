@@ -2,7 +2,8 @@
 ghost use mathlib.Core.Path.{_≡_};
 ghost use mathlib.Core.Bool.{cond};
 ghost use Prim.Native.Nat.{_≤_, _<_};
-ghost use Rattle.refusal.specs.Parameters.{params, within, inRange, made, madeSheet, answered};
+ghost use Rattle.refusal.specs.First.{doneOr};
+ghost use Rattle.refusal.specs.Parameters.{params, noParams, within, inRange, sheet, makeNumber, sheetNumber, madeNumber, madePlace, madeParams, made, madeSheet};
 
 // A refusal number with its place. Number 0 is done, and the place is 0 except for a gate of a circuit.
 pub struct Refusal {
@@ -82,6 +83,9 @@ impl Params {
     // The set of these numbers, or refusal 1 where one of them is outside its range.
     pub fn make(n: u32, q: u32, l: u32, e: u32, f: u32) -> Made
         ensures { λ r. ⌜ r ≡ made (params n q l e f) ⌝ }
+        ensures { λ r. ⌜ madeNumber r ≡ makeNumber (params n q l e f) ⌝ }
+        ensures { λ r. ⌜ madePlace r ≡ 0 ⌝ }
+        ensures { λ r. ⌜ madeParams r ≡ doneOr (makeNumber (params n q l e f)) (params n q l e f) noParams ⌝ }
     {
         let p = Params { n, q, l, e, f };
         if p.in_range() {
@@ -96,6 +100,9 @@ impl Params {
     // House sheet k, or refusal 1 where there is none.
     pub fn sheet(k: u32) -> Made
         ensures { λ r. ⌜ r ≡ madeSheet k ⌝ }
+        ensures { λ r. ⌜ madeNumber r ≡ sheetNumber k ⌝ }
+        ensures { λ r. ⌜ madePlace r ≡ 0 ⌝ }
+        ensures { λ r. ⌜ madeParams r ≡ doneOr (sheetNumber k) (sheet k) noParams ⌝ }
     {
         if 6 <= k {
             return Made::Refused(Refusal {

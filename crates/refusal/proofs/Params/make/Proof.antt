@@ -1,6 +1,6 @@
 -- `Params::make` answers the set or refusal 1, by what `in_range` ensures.
 use mathlib.Core.Path.{sym, _∙_}
-use Rattle.refusal.specs.Parameters.{made-set, made-refused}
+use Rattle.refusal.specs.Parameters.{made, made-set, made-refused, made-values}
 use borrow.Author.Needs.{needs}
 use Rattle.refusal.proofs.Params.make.Statement.{statement}
 use Rattle.refusal.proofs.Params.make.Tie as tie
@@ -9,10 +9,12 @@ in-range-requires : tie.Need-in-range-requires
 in-range-requires c κs = search needs
 
 returns : tie.Need-returns
-returns c = sym (made-set _ (sym (c .before .in-range .ensures) ∙ c .if1 .taken))
+unfolding made
+returns c = made-values _ (sym (made-set _ (sym (c .before .in-range .ensures) ∙ c .if1 .taken)))
 
 returns-2 : tie.Need-returns-2
-returns-2 c = sym (made-refused _ (sym (c .before .in-range .ensures) ∙ c .if1 .left))
+unfolding made
+returns-2 c = made-values _ (sym (made-refused _ (sym (c .before .in-range .ensures) ∙ c .if1 .left)))
 
 pub make-spec : {M : Type 1} → statement M
 make-spec = tie.close (tie.spec in-range-requires returns returns-2)

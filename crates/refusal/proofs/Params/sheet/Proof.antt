@@ -1,12 +1,13 @@
 -- `Params::sheet` answers row k of the table, which is that of the definition, or refusal 1.
 use mathlib.Core.Path.{sym}
-use Rattle.refusal.specs.Parameters.{sheetTable, sheet-set, sheet-refused}
+use Rattle.refusal.specs.Parameters.{sheetTable, madeSheet, sheet-set, sheet-refused, sheet-values}
 use borrow.Author.Needs.{needs}
 use Rattle.refusal.proofs.Params.sheet.Statement.{statement}
 use Rattle.refusal.proofs.Params.sheet.Tie as tie
 
 returns : tie.Need-returns
-returns c = sym (sheet-refused _ (c .if1 .taken))
+unfolding madeSheet
+returns c = sheet-values _ (sym (sheet-refused _ (c .if1 .taken)))
 
 mul-s : tie.Need-mul-s
 mul-s c = search needs
@@ -30,8 +31,8 @@ array-read-t31 : tie.Need-array-read-t31
 array-read-t31 c = search needs
 
 returns-2 : tie.Need-returns-2
-unfolding sheetTable
-returns-2 c = sym (sheet-set _ (c .before .if1 .left))
+unfolding sheetTable madeSheet
+returns-2 c = sheet-values _ (sym (sheet-set _ (c .before .if1 .left)))
 
 pub sheet-spec : {M : Type 1} → statement M
 sheet-spec =
