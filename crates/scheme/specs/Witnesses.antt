@@ -12,13 +12,18 @@ use Rattle.whole.specs.Centred.{centred, rest}
 use Rattle.whole.specs.Lists.{all, tabulate, grid, cut}
 use Rattle.whole.specs.Inner.{inner, sizes, column}
 use Rattle.refusal.specs.First.{firstOf, doneOr}
-use Rattle.refusal.specs.Parameters.{inRange, sheet, sheets, sheetTable}
+use Rattle.refusal.specs.declared.Params.{Params}
+use Rattle.refusal.specs.Parameters.{params, inRange, sheet, sheets, sheetTable}
 use Rattle.scheme.specs.Arithmetic.{isResidue, isKey, encrypt, decrypt, XOR, XOR-bound, NOT, NOT-bound, tensorEntry, tensor, keyRows, maskColumn, rowZeroEntry, switchingKey, switchEntry, switch, AND, AND-bound, fits}
 use Rattle.scheme.specs.Calls.{badParams, differs, badKey, badBit, outside, exceeds, overBudget, bounded, decrypted, encryptRows, encryptAnswer, encryptResult, decryptRows, decryptAnswer, xorRows, xorAnswer, xorResult, notRows, notAnswer, notResult, andRows, andAnswer, andResult, andScratch, makeKeyRows, makeKeyResult, benchRows, benchKey}
 use Rattle.scheme.specs.Figures.{−, pair, four}
 
 abbrev s : List ℤ
 s = pair (pos 1) (pos 1)
+
+-- document 01's switching key
+abbrev W : List ℤ
+W = − 83 ∷ pos 116 ∷ pos 9 ∷ pos 15 ∷ four (pos 100) (− 100) (pos 7) (pos 0)
 
 -- what a result buffer holds at entry here
 abbrev found : List ℤ
@@ -66,8 +71,7 @@ pub not-writes : notResult (sheet 0) (pair (pos 6) (pos 3)) 1 found ≡ pair (�
 unfolding notResult notRows NOT firstOf doneOr badParams inRange sheet sheets sheetTable differs outside all isResidue overBudget fits centred rest
 not-writes = refl
 
--- AND on sheet 1: zero ciphertexts with bounds 2 and 2 under a zero switching key are accepted with bound 34; scratch does not stay as it was,
--- and the result is not left as found
+-- AND on sheet 1: zero ciphertexts with bounds 2 and 2 under a zero switching key are accepted with bound 34, and scratch does not stay as it was
 pub and-accepted : andAnswer (sheet 1) (replicate 4 (pos 0)) 2 (replicate 4 (pos 0)) 2 (replicate 64 (pos 0)) 16 4 ≡ bounded 0 34
 unfolding andAnswer andRows AND-bound firstOf doneOr badParams inRange sheet sheets sheetTable differs outside all isResidue overBudget fits
 and-accepted = refl
@@ -76,13 +80,21 @@ pub and-clears : andScratch (sheet 1) (replicate 4 (pos 0)) 2 (replicate 4 (pos 
 unfolding andScratch andRows AND-bound firstOf doneOr badParams inRange sheet sheets sheetTable differs outside all isResidue overBudget fits
 and-clears = refl
 
-pub and-writes : andResult (sheet 1) (replicate 4 (pos 0)) 2 (replicate 4 (pos 0)) 2 (replicate 64 (pos 0)) (replicate 16 (pos 7)) (replicate 4 (pos 7)) ≡ replicate 4 (pos 0)
-unfolding andResult andRows AND AND-bound switch switchEntry keyRows tensor tensorEntry firstOf doneOr badParams inRange sheet sheets sheetTable differs outside all isResidue overBudget fits centred rest round grid flatMap cut inner
+-- an AND that writes zeros, or nothing: with n 2, q 16, L 2, E 1, F 0 and document 01's key, (6,3) AND itself, of bounds 0 and 0, states the bound 3
+-- and writes (7,4)
+abbrev noErrors : Params
+noErrors = params 2 16 2 1 0
+
+pub and-states-three : andAnswer noErrors (pair (pos 6) (pos 3)) 0 (pair (pos 6) (pos 3)) 0 W 4 2 ≡ bounded 0 3
+unfolding andAnswer andRows AND-bound firstOf doneOr badParams inRange differs outside all isResidue overBudget fits
+and-states-three = refl
+
+pub and-writes : andResult noErrors (pair (pos 6) (pos 3)) 0 (pair (pos 6) (pos 3)) 0 W (replicate 4 (pos 9)) found ≡ pair (pos 7) (pos 4)
+unfolding andResult andRows AND AND-bound switch switchEntry keyRows tensor tensorEntry firstOf doneOr badParams inRange differs outside all isResidue overBudget fits centred rest round grid flatMap cut inner
 and-writes = refl
 
 -- the maker of switching keys writes document 01's key
-pub key-written : makeKeyResult (sheet 0) s (four (pos 100) (− 100) (pos 7) (pos 0)) (four (pos 1) (pos 0) (pos 0) (− 1)) (replicate 8 (pos 9))
-    ≡ − 83 ∷ pos 116 ∷ pos 9 ∷ pos 15 ∷ four (pos 100) (− 100) (pos 7) (pos 0)
+pub key-written : makeKeyResult (sheet 0) s (four (pos 100) (− 100) (pos 7) (pos 0)) (four (pos 1) (pos 0) (pos 0) (− 1)) (replicate 8 (pos 9)) ≡ W
 unfolding makeKeyResult makeKeyRows switchingKey rowZeroEntry maskColumn tabulate cut column firstOf doneOr badParams inRange sheet sheets sheetTable differs badKey isKey eqZ sizes outside all isResidue exceeds centred rest inner
 key-written = refl
 
