@@ -97,10 +97,19 @@ def row_loop(archive):
     return longest(archive, "row loop: no loop of one block has 16 imul", lambda l: l.count("imul") == 16)
 
 
+def is_range_check(loop):
+    """Whether all its work is packed: entries loaded, sums and differences, an `or` and an `and` of them; nothing stored, no entry read otherwise."""
+    packed = [i for i in loop.instructions if "%xmm" in i.operands]
+    rest = [i for i in loop.instructions if "%xmm" not in i.operands]
+    loads = loop.packed_loads()
+    work = [i for i in packed if i.name in ("paddq", "psubq", "por", "pand") and "(" not in i.operands]
+    whole = len(packed) == loads + len(work) and not any("(" in i.operands for i in rest)
+    return whole and loads > 0 and all(loop.count(name) >= loads for name in ("paddq", "psubq", "por", "pand"))
+
+
 def range_loop(archive):
-    """Packed, by the top bits that it sums: as many entries a turn as its loads take."""
-    what = "vectorised range check: no loop of one block sums the top bits of packed entries"
-    return longest(archive, what, lambda l: any(i.name == "psrlq" and i.operands.startswith("$63,") for i in l.instructions))
+    """As many entries a turn as its loads take."""
+    return longest(archive, "vectorised range check: no loop of one block keeps the or and the and of packed entries and no more", is_range_check)
 
 
 def wide_loop(path):

@@ -1,3 +1,4 @@
 pub mod Beyond
 pub mod Sums
 pub mod Switching
+pub mod Tops

@@ -5,23 +5,29 @@ ghost use lib.IntN.{ℤ, natAbs};
 ghost use Rattle.whole.specs.Lists.{all};
 ghost use Rattle.scheme.specs.Arithmetic.{isResidue};
 ghost use Rattle.modular.specs.Loans.{Modulus};
-use crate::size::folded;
+use crate::size::bits;
 use crate::size::size;
+use std::num::wrapping_add_u64;
+use std::num::wrapping_sub_u64;
 
 const TOP: u64 = 9223372036854775808;
 
-// Whether every entry is in -h to h-1. No exit inside the pass, so that it runs several entries at a time.
+// Whether every entry is in -h to h-1: modulo 2^64 no x + h has the top bit and each x - h has it. No exit inside the pass, so that it
+// runs several entries at a time; x - h is made of x + h, which spares it a copy of x.
 fn all_below(xs: &[i64], h: u64) -> bool
-    requires { ⌜ (0 < h) × (h ≤ 9223372036854775808) ⌝ }
+    requires { ⌜ (0 < h) × (h ≤ 4611686018427387904) ⌝ }
     ensures { λ r. ⌜ r ≡ all (isResidue (2 * h)) (now (xs .entry)) ⌝ }
 {
-    let mut beyond: u64 = 0;
+    let mut some = 0;
+    let mut each = u64::MAX;
     let mut i = 0;
     while i < xs.len() {
-        beyond += (folded(xs[i]) + (TOP - h)) >> 63;
+        let raised = wrapping_add_u64(bits(xs[i]), h);
+        some |= raised;
+        each &= wrapping_sub_u64(raised, 2 * h);
         i += 1;
     }
-    beyond == 0
+    (some < TOP) & (TOP <= each)
 }
 
 // Whether every entry is in -q/2 to q/2-1.

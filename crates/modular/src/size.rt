@@ -1,13 +1,14 @@
 ghost use mathlib.Core.Path.{_≡_};
 ghost use lib.IntN.{natAbs};
-ghost use lib.Signed.{mag};
+ghost use mir.Syntax.{w64};
+ghost use mir.Val.{ofZ};
 
-// x from 0 up, and -x-1 below 0: x is in -h to h-1 exactly when this is below h.
-pub fn folded(x: i64) -> u64
-    ensures { λ r. ⌜ r ≡ mag x ⌝ }
+// The bits of x as a number from 0 up: x, and below 0 x + 2^64.
+pub fn bits(x: i64) -> u64
+    ensures { λ r. ⌜ r ≡ ofZ w64 x ⌝ }
 {
     if x < 0 {
-        return (-(x + 1)) as u64;
+        return u64::MAX - (-(x + 1)) as u64;
     }
     x as u64
 }
