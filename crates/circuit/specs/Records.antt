@@ -114,13 +114,7 @@ gates-below inputs own ks ls rs i wire e f h none =
 
 -- ---- by kind
 
--- XOR and AND, where both have the same
-pub kind-either : {A : Type 0} (k : ℕ) (x n : A) → k < 2 → byKind k x x n ≡ x
-unfolding byKind
-kind-either zero x n h = refl
-kind-either (suc zero) x n h = refl
-kind-either (suc (suc k)) x n h = absurd (omega arith)
-
+-- neither XOR nor AND
 pub kind-neither : {A : Type 0} (k : ℕ) (x a n : A) → (k ≡ 0 → ⊥) → (k ≡ 1 → ⊥) → byKind k x a n ≡ n
 unfolding byKind
 kind-neither zero x a n h g = absurd (h refl)

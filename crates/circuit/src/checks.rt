@@ -30,20 +30,12 @@ pub fn is_some_over(q: u32, bounds: &[u32]) -> bool
     !(over == 0)
 }
 
-// 9: whether a gate that makes the wire `own` is wrong in kind, operand or NOT's right.
+// 9: whether a gate that makes the wire `own` is wrong in kind, operand or NOT's right. No branch on the kind, which no processor can
+// foretell; NOT's right is held to `own` too, since 0 lies below the wire of any gate whose left does.
 pub fn is_wrong(own: u32, kind: u32, left: u32, right: u32) -> bool
     ensures { λ r. ⌜ r ≡ wrongGate own (gate kind left right) ⌝ }
 {
-    if 2 < kind {
-        return true;
-    }
-    if own <= left {
-        return true;
-    }
-    if kind == 2 {
-        return !(right == 0);
-    }
-    own <= right
+    (2 < kind) | (own <= left) | (own <= right) | ((kind == 2) & !(right == 0))
 }
 
 // The first wrong gate, or the number of gates where none is wrong. Gate 0 makes the wire `inputs`.
