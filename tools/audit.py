@@ -26,8 +26,8 @@ import sys
 import audit_edits
 
 ROOT = pathlib.Path(__file__).resolve().parent.parent
-ENGINE = ("refusal", "modular", "keys", "regev", "circuit", "evaluation", "records", "gatfile")
-THEOREMS = ("whole", "refusal", "scheme", "noise", "circuit", "vouched")
+ENGINE = ("refusal", "modular", "keys", "regev", "circuit", "evaluation", "records", "gatfile", "text")
+THEOREMS = ("whole", "refusal", "scheme", "noise", "circuit", "vouched", "circuitfile")
 RESULTS = "audit.tsv"
 REFUSED, ACCEPTED, BAD = "refused", "accepted", "does not compile"
 

@@ -3,13 +3,13 @@ ghost use mathlib.Core.Path.{_≡_};
 ghost use Prim.Native.Nat.{_≤_};
 ghost use lib.ListN.{length, take};
 ghost use Rattle.io.specs.Counts.{Counts};
-ghost use Rattle.gatfile.specs.Text.{text};
-use gatfile::text::ROOM;
+ghost use Rattle.circuitfile.specs.Text.{text};
 use libc::STDERR_FILENO;
 use libc::STDIN_FILENO;
 use libc::STDOUT_FILENO;
+use text::ROOM;
 
-// One byte more than the longest valid file has. A longer file has the text of its first so many bytes: `long-text` of gatfile's specs/Long.
+// One byte more than the longest valid file has. A longer file has the text of its first so many bytes: `long-text` of circuitfile's specs/Long.
 const MOST: usize = 20504;
 
 // How many bytes were read, and whether a read failed.
@@ -53,7 +53,7 @@ fn render(file: &[u8], out: &mut [u8]) -> usize
     ensures { λ r. ⌜ take r (now (out .exit)) ≡ text (now (file .entry)) ⌝ }
     ensures { λ r. ⌜ Counts r (now (out .exit)) ⌝ }
 {
-    gatfile::text::text(file, out)
+    text::text(file, out)
 }
 
 fn main() {

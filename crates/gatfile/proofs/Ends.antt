@@ -11,8 +11,8 @@ use Rattle.refusal.specs.declared.Refusal.{Refusal}
 use Rattle.refusal.specs.First.{firstOf, doneOr-done, doneOr-refused}
 use Rattle.refusal.specs.Parameters.{refused}
 use Rattle.scheme.specs.Passed.{differs-is, lengths-same}
-use Rattle.gatfile.specs.File.{fileInputs, fileGateCount, headRows, fileBounds, fourBytes, planNumber, planFileBuffer}
-use Rattle.gatfile.specs.Order.{HeadRight, otherLength, gateAnswer, planRefusal, plan-headed, plan-headed-number, plan-short, plan-refused, plan-gates, plan-settled}
+use Rattle.circuitfile.specs.File.{fileInputs, fileGateCount, headRows, fileBounds, fourBytes, planNumber, planFileBuffer}
+use Rattle.circuitfile.specs.Order.{HeadRight, otherLength, gateAnswer, planRefusal, plan-headed, plan-headed-number, plan-short, plan-refused, plan-gates, plan-settled}
 
 module _ (file buffer : List ℕ) where
   abbrev pub Planned : Refusal → List ℕ → Type 0

@@ -6,7 +6,7 @@ use native.Mathlib.Omega.{arith}
 use lib.ListN.{length, getD, set}
 use Rattle.whole.specs.Lists.{Filled, fill-start, fill-step}
 use Rattle.circuit.specs.declared.Gate.{Gate}
-use Rattle.gatfile.specs.File.{field, fileGateCount, fileGate}
+use Rattle.circuitfile.specs.File.{field, fileGateCount, fileGate}
 use Rattle.gatfile.specs.Settled.{fileColumn, fileKinds, fileLefts, fileRights, length-column, getD-column}
 
 pub record Listed (file ks₀ ls₀ rs₀ ks ls rs : List ℕ) (at g : ℕ) : Type 0 where

@@ -1,12 +1,2 @@
-pub mod File
-pub mod Fields
-pub mod Order
 pub mod Settled
-pub mod Text
 pub mod Writing
-pub mod Digits
-pub mod Lines
-pub mod Wording
-pub mod Unique
-pub mod Long
-pub mod Example

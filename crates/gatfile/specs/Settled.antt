@@ -5,7 +5,7 @@ use mathlib.Core.Bool.{true, false}
 use mathlib.Core.List.{List, _∷_, _++_}
 use Prim.Native.Nat.{ℕ, zero, suc, _+_, _<_}
 use native.Mathlib.Omega.{arith}
-use lib.ListN.{length, getD, take, drop, replicate, length-replicate, getD-replicate, length-append, length-drop}
+use lib.ListN.{length, getD, take, drop, replicate, getD-replicate, length-append, length-drop}
 use lib.Seq.{take-at, length-take-le}
 use Rattle.whole.specs.Tests.{or-neither}
 use Rattle.whole.specs.Lists.{tabulate, length-tabulate, getD-tabulate, all, getD-all}
@@ -15,10 +15,10 @@ use Rattle.refusal.specs.First.{firstOf, doneOr, doneOr-done}
 use Rattle.scheme.specs.Arithmetic.{fits}
 use Rattle.scheme.specs.Passed.{lengths-same, below-fits}
 use Rattle.circuit.specs.declared.Gate.{Gate}
-use Rattle.circuit.specs.Records.{length-boundsOf}
 use Rattle.circuit.specs.Core.{records, uneven, planCoreRows, planCoreAnswer, planCoreBounds}
-use Rattle.gatfile.specs.File.{fileParams, fileInputs, fileGateCount, fileGate, fileGates, fileInputBounds, fileBounds, fileGateRows, filePlace}
-use Rattle.gatfile.specs.Order.{HeadRight, gateAnswer}
+use Rattle.circuitfile.specs.File.{fileParams, fileInputs, fileGateCount, fileGate, fileGates, fileInputBounds, fileBounds, fileGateRows, filePlace}
+use Rattle.circuitfile.specs.Order.{HeadRight, gateAnswer}
+use Rattle.circuitfile.specs.Wires.{length-inputs}
 
 -- one part of each gate, and so the kinds, the lefts and the rights
 unfoldable pub fileColumn : List ℕ → (Gate → ℕ) → List ℕ
@@ -54,10 +54,6 @@ module _ (file : List ℕ) where
   pub getD-column : (part : Gate → ℕ) (g : ℕ) → g < fileGateCount file → getD (fileColumn file part) g 0 ≡ part (fileGate file g)
   unfolding fileColumn
   getD-column part g h = getD-tabulate (fileGateCount file) (λ g. part (fileGate file g)) g 0 h
-
-  pub length-inputs : length (fileInputBounds file) ≡ fileInputs file
-  unfolding fileInputBounds
-  length-inputs = length-replicate (fileInputs file) (fileParams file .e)
 
   -- each input's bound fits
   inputs-fit : HeadRight file → all (fits (fileParams file .q)) (fileInputBounds file) ≡ true
@@ -118,8 +114,3 @@ module _ (file : List ℕ) where
   pub settled-all : (found : List ℕ) {a : Refusal} {out : List ℕ} → a ≡ gateAnswer file → a .number ≡ 0 → out ≡ settledBounds file found → out ≡ fileBounds file
   unfolding gateAnswer settledBounds
   settled-all found e z w = w ∙ doneOr-done _ _ (sym (ap (λ (a : Refusal). a .number) e) ∙ z)
-
-  pub length-bounds : length (fileBounds file) ≡ fileInputs file + fileGateCount file
-  unfolding fileBounds fileGates
-  length-bounds =
-      length-boundsOf (fileParams file) (fileGates file) (fileInputBounds file) ∙ ap₂ _+_ (length-inputs file) (length-tabulate (fileGateCount file) (fileGate file))

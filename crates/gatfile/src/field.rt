@@ -2,7 +2,7 @@
 ghost use mathlib.Core.Path.{_≡_};
 ghost use Prim.Native.Nat.{_+_, _≤_, _<_};
 ghost use lib.ListN.{length};
-ghost use Rattle.gatfile.specs.File.{field};
+ghost use Rattle.circuitfile.specs.File.{field};
 
 // The field of one byte at `at`.
 pub fn one(file: &[u8], at: usize) -> u32

@@ -3,7 +3,7 @@ ghost use mathlib.Core.Path.{_≡_};
 ghost use Prim.Native.Nat.{_+_, _≤_, _<_};
 ghost use lib.ListN.{length};
 ghost use Rattle.refusal.specs.First.{firstOf};
-ghost use Rattle.gatfile.specs.File.{fileParams, fileInputs, fileGateCount, isKnown, headRows};
+ghost use Rattle.circuitfile.specs.File.{fileParams, fileInputs, fileGateCount, isKnown, headRows};
 use crate::field::four;
 use crate::field::two;
 use circuit::checks::are_bad_counts;

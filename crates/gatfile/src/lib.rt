@@ -1,8 +1,5 @@
-// The circuit file: its check, planning on its bytes, and the printed text.
-mod field;
-mod head;
-mod line;
+// The circuit file in code: its fields, its check, and planning on its bytes.
+pub mod field;
+pub mod head;
 pub mod plan;
-mod settle;
-pub mod text;
-mod write;
+pub mod settle;

@@ -1,6 +1,6 @@
 // What the evaluation host, which is written in C, calls: numbers and byte slices alone.
 ghost use mathlib.Core.Path.{_≡_};
-ghost use Rattle.gatfile.specs.File.{checkAnswer, planFileAnswer, planFileBuffer};
+ghost use Rattle.circuitfile.specs.File.{checkAnswer, planFileAnswer, planFileBuffer};
 
 // The check of a circuit file: 65,536 times the number plus the place.
 #[no_mangle]

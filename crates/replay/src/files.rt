@@ -37,7 +37,7 @@ pub fn plan(call: &[i64], text: &mut [u8], at: usize) -> usize
 fn put_printed(text: &mut [u8], at: usize, file: &[u8], out: &mut [u8]) -> usize
     ensures { λ r. ⌜ Placed r (now (text .entry)) (now (text .exit)) ⌝ }
 {
-    let length = gatfile::text::text(file, out);
+    let length = text::text(file, out);
     let to = print::unsigned(text, at, length as u64);
     print::bytes(text, to, out)
 }

@@ -4,7 +4,7 @@ use Prim.Native.Nat.{_≤_}
 use native.Mathlib.Omega.{arith}
 use lib.ListN.{length}
 use lib.Seq.{length-take-le}
-use Rattle.gatfile.specs.Lines.{text-front}
+use Rattle.circuitfile.specs.Lines.{text-front}
 use borrow.Author.Needs.{needs}
 use Rattle.budget.proofs.render.Statement.{statement}
 use Rattle.budget.proofs.render.Tie as tie

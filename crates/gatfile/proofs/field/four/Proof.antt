@@ -1,6 +1,6 @@
 -- `field::four` is the first two bytes and then the other two (`field-parts`).
 use native.Mathlib.Omega.{arith}
-use Rattle.gatfile.specs.Fields.{field-parts}
+use Rattle.circuitfile.specs.Fields.{field-parts}
 use borrow.Author.Needs.{needs}
 use Rattle.gatfile.proofs.field.four.Statement.{statement}
 use Rattle.gatfile.proofs.field.four.Tie as tie

@@ -1,7 +1,7 @@
 -- `field::one` is the byte at its place.
 use mathlib.Core.Path.{sym}
 use native.Mathlib.Omega.{arith}
-use Rattle.gatfile.specs.Fields.{field-one}
+use Rattle.circuitfile.specs.Fields.{field-one}
 use borrow.Author.Needs.{needs}
 use Rattle.gatfile.proofs.field.one.Statement.{statement}
 use Rattle.gatfile.proofs.field.one.Tie as tie

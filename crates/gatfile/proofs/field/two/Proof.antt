@@ -1,6 +1,6 @@
 -- `field::two` is the first byte and then the second (`field-parts`).
 use native.Mathlib.Omega.{arith}
-use Rattle.gatfile.specs.Fields.{field-parts}
+use Rattle.circuitfile.specs.Fields.{field-parts}
 use borrow.Author.Needs.{needs}
 use Rattle.gatfile.proofs.field.two.Statement.{statement}
 use Rattle.gatfile.proofs.field.two.Tie as tie

@@ -1,5 +1,5 @@
 -- `head::gate_count` is the field of `fileGateCount`.
-use Rattle.gatfile.specs.File.{fileGateCount}
+use Rattle.circuitfile.specs.File.{fileGateCount}
 use borrow.Author.Needs.{needs}
 use Rattle.gatfile.proofs.head.gate_count.Statement.{statement}
 use Rattle.gatfile.proofs.head.gate_count.Tie as tie

@@ -2,7 +2,7 @@
 use borrow.Author.Tests.{lt-ltb, le-ltb}
 use Rattle.refusal.specs.First.{firstOf}
 use Rattle.scheme.specs.Passed.{params-is, differs-is}
-use Rattle.gatfile.specs.File.{headRows}
+use Rattle.circuitfile.specs.File.{headRows}
 use borrow.Author.Needs.{needs}
 use Rattle.gatfile.proofs.head.head_number.Statement.{statement}
 use Rattle.gatfile.proofs.head.head_number.Tie as tie

@@ -1,5 +1,5 @@
 -- `head::inputs` is the field of `fileInputs`.
-use Rattle.gatfile.specs.File.{fileInputs}
+use Rattle.circuitfile.specs.File.{fileInputs}
 use borrow.Author.Needs.{needs}
 use Rattle.gatfile.proofs.head.inputs.Statement.{statement}
 use Rattle.gatfile.proofs.head.inputs.Tie as tie

@@ -1,5 +1,5 @@
 -- `head::is_known` compares the mark's three bytes and the version, as `isKnown` does.
-use Rattle.gatfile.specs.File.{isKnown}
+use Rattle.circuitfile.specs.File.{isKnown}
 use borrow.Author.Needs.{needs}
 use Rattle.gatfile.proofs.head.is_known.Statement.{statement}
 use Rattle.gatfile.proofs.head.is_known.Tie as tie

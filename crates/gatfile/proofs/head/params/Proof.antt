@@ -1,5 +1,5 @@
 -- `head::params` is the five fields of `fileParams`.
-use Rattle.gatfile.specs.File.{fileParams}
+use Rattle.circuitfile.specs.File.{fileParams}
 use borrow.Author.Needs.{needs}
 use Rattle.gatfile.proofs.head.params.Statement.{statement}
 use Rattle.gatfile.proofs.head.params.Tie as tie

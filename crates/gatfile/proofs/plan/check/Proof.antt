@@ -1,7 +1,7 @@
 -- `plan::check` is the check's number and place as one number.
 use mathlib.Core.Path.{_∙_}
-use Rattle.gatfile.specs.File.{checkAnswer}
-use Rattle.gatfile.specs.Order.{checkRefusal, check-place}
+use Rattle.circuitfile.specs.File.{checkAnswer}
+use Rattle.circuitfile.specs.Order.{checkRefusal, check-place}
 use borrow.Author.Needs.{needs}
 use Rattle.gatfile.proofs.plan.check.Statement.{statement}
 use Rattle.gatfile.proofs.plan.check.Tie as tie

@@ -1,7 +1,7 @@
 -- `plan::plan` is planning's number and place as one number.
 use mathlib.Core.Path.{_∙_}
-use Rattle.gatfile.specs.File.{planFileAnswer}
-use Rattle.gatfile.specs.Order.{planRefusal, plan-place}
+use Rattle.circuitfile.specs.File.{planFileAnswer}
+use Rattle.circuitfile.specs.Order.{planRefusal, plan-place}
 use borrow.Author.Needs.{needs}
 use Rattle.gatfile.proofs.plan.plan.Statement.{statement}
 use Rattle.gatfile.proofs.plan.plan.Tie as tie

@@ -5,9 +5,10 @@ use Prim.Native.Nat.{_+_, _*_}
 use native.Mathlib.Omega.{arith}
 use lib.ListN.{length}
 use Rattle.whole.specs.Lists.{put-first, put-holds}
-use Rattle.gatfile.specs.File.{fileInputs, fileGateCount, fileBounds, fourBytes}
-use Rattle.gatfile.specs.Order.{HeadRight, head-right}
-use Rattle.gatfile.specs.Settled.{settled-all, length-bounds}
+use Rattle.circuitfile.specs.File.{fileInputs, fileGateCount, fileBounds, fourBytes}
+use Rattle.circuitfile.specs.Order.{HeadRight, head-right}
+use Rattle.circuitfile.specs.Wires.{length-bounds}
+use Rattle.gatfile.specs.Settled.{settled-all}
 use Rattle.gatfile.proofs.Ends.{planned-headed, planned-short, planned-refused, planned-done}
 use borrow.Author.Needs.{needs}
 use Rattle.gatfile.proofs.plan.planned.Statement.{statement}

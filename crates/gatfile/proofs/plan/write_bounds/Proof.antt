@@ -3,7 +3,7 @@ use mathlib.Core.Path.{_≡_, refl}
 use Prim.Native.Nat.{_*_, _-_}
 use native.Mathlib.Omega.{arith}
 use lib.ListN.{length}
-use Rattle.gatfile.specs.File.{fourBytes}
+use Rattle.circuitfile.specs.File.{fourBytes}
 use Rattle.gatfile.specs.Writing.{PartsWritten, parts-start, parts-step, parts-end, written-kept, written-all}
 use Rattle.gatfile.proofs.plan.write_bounds.Statement.{statement}
 use Rattle.gatfile.proofs.plan.write_bounds.Tie as tie

@@ -3,7 +3,7 @@ use mathlib.Core.Path.{refl}
 use Prim.Native.Nat.{_+_}
 use native.Mathlib.Omega.{arith}
 use lib.ListN.{length-set}
-use Rattle.gatfile.specs.File.{fourBytes}
+use Rattle.circuitfile.specs.File.{fourBytes}
 use Rattle.gatfile.specs.Writing.{written-byte, written-then}
 use borrow.Author.Needs.{needs}
 use Rattle.gatfile.proofs.plan.write_four.Statement.{statement}

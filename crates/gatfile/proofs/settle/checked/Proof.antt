@@ -3,8 +3,9 @@ use mathlib.Core.Path.{sym, ap, _∙_}
 use native.Mathlib.Omega.{arith}
 use lib.ListN.{length}
 use lib.Seq.{take-at}
-use Rattle.gatfile.specs.Order.{HeadRight, head-right, check-headed, check-settled}
-use Rattle.gatfile.specs.Settled.{settled-all, length-bounds}
+use Rattle.circuitfile.specs.Order.{HeadRight, head-right, check-headed, check-settled}
+use Rattle.circuitfile.specs.Wires.{length-bounds}
+use Rattle.gatfile.specs.Settled.{settled-all}
 use borrow.Author.Needs.{needs}
 use Rattle.gatfile.proofs.settle.checked.Statement.{statement}
 use Rattle.gatfile.proofs.settle.checked.Tie as tie

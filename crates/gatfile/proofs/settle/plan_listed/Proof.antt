@@ -1,7 +1,7 @@
 -- `settle::plan_listed` plans the file's circuit: what it lends to `plan` are the file's gates as three lists and its inputs at bound E, for which planning
 -- answers and leaves what 9, 10 and the bounds of the file are (`lent-planned`).
 use native.Mathlib.Nat.{sub-zero}
-use Rattle.gatfile.specs.Order.{head-right}
+use Rattle.circuitfile.specs.Order.{head-right}
 use Rattle.gatfile.specs.Settled.{lent-planned}
 use borrow.Author.Needs.{needs}
 use Rattle.gatfile.proofs.settle.plan_listed.Statement.{statement}

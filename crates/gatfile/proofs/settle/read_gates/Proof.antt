@@ -3,7 +3,7 @@ use Prim.Native.Nat.{_-_, _<_}
 use native.Mathlib.Omega.{arith}
 use lib.ListN.{length}
 use Rattle.whole.specs.Lists.{fill-end}
-use Rattle.gatfile.specs.File.{fileGateCount}
+use Rattle.circuitfile.specs.File.{fileGateCount}
 use Rattle.gatfile.proofs.Listing.{Listed, listed-start, listed-step}
 use Rattle.gatfile.proofs.settle.read_gates.Statement.{statement}
 use Rattle.gatfile.proofs.settle.read_gates.Tie as tie

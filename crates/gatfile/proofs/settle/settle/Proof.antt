@@ -1,6 +1,6 @@
 -- `settle::settle` lends room for the gates, of which there are at most as many.
 use native.Mathlib.Omega.{arith}
-use Rattle.gatfile.specs.Order.{head-right}
+use Rattle.circuitfile.specs.Order.{head-right}
 use borrow.Author.Needs.{needs}
 use Rattle.gatfile.proofs.settle.settle.Statement.{statement}
 use Rattle.gatfile.proofs.settle.settle.Tie as tie

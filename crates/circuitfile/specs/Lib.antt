@@ -1,0 +1,11 @@
+pub mod File
+pub mod Text
+pub mod Example
+pub mod Fields
+pub mod Order
+pub mod Wires
+pub mod Digits
+pub mod Lines
+pub mod Wording
+pub mod Unique
+pub mod Long

@@ -1,0 +1,77 @@
+-- `text` copies the text to the lent buffer where it has room for it.
+use mathlib.Core.Path.{_≡_, ap, _∙_}
+use mathlib.Core.List.{List, _++_}
+use Prim.Native.Nat.{ℕ, _≤_}
+use native.Mathlib.Omega.{arith}
+use native.Mathlib.Nat.{sub-zero}
+use lib.ListN.{length, drop}
+use Rattle.circuitfile.specs.Text.{text, textAnswer, textBuffer}
+use Rattle.circuitfile.specs.Lines.{text-short, text-fits}
+use Rattle.gatfile.specs.Writing.{Written, written-as, written-front}
+use borrow.Author.Needs.{needs}
+use Rattle.text.proofs.text.Statement.{statement}
+use Rattle.text.proofs.text.Tie as tie
+
+slice-aggregate-put-text : tie.Need-slice-aggregate-put-text
+slice-aggregate-put-text c = search needs
+
+slice-aggregate-put-text-2 : tie.Need-slice-aggregate-put-text-2
+slice-aggregate-put-text-2 c = search needs
+
+put-text-requires : tie.Need-put-text-requires
+put-text-requires c κs = search needs
+
+-- what was written from the front of the lent buffer is what the call leaves there
+written : (file out : List ℕ) {new : List ℕ} {to : ℕ} → Written (text file) out new 0 to → (to ≡ textAnswer file out) × (new ≡ textBuffer file out)
+written file out {new} {to} w =
+    let long : to ≡ length (text file) = omega (arith, w .stop) in
+    let t = text-fits file out (omega (arith, w .room)) in
+    (long ∙ t .0, w .whole ∙ ap (λ (n : ℕ). text file ++ drop n out) long ∙ t .1)
+
+-- the text has room in the array
+few : (c : tie.After-put-text) → length (text (c .before .before .before .before .before .args .file .now)) ≤ 102432
+few c = omega (arith, c .put-text .ensures .stop, c .put-text .ensures .room)
+
+returns : tie.Need-returns
+returns c =
+    let w = c .before .before .before .put-text .ensures in
+    let a = c .before .before .before .before .before .before .before .before .args in
+    let t = text-short (a .file .now) (a .out .now) (omega (arith, c .if1 .taken, w .stop)) in
+    (t .0, (t .1, few (c .before .before .before)))
+
+sub-put : tie.Need-sub-put
+sub-put c = search needs
+
+part-put-start : tie.Need-part-put-start
+part-put-start c = search needs
+
+part-put-end : tie.Need-part-put-end
+part-put-end c = search needs
+
+put-requires : tie.Need-put-requires
+put-requires c κs = search needs
+
+same-length : tie.Need-same-length
+same-length c = search needs
+
+returns-2 : tie.Need-returns-2
+returns-2 c =
+    let p = c .before .before .before .before .before .before .before .before .before in
+    let a = p .before .before .before .before .before .args in
+    let t = written (a .file .now) (a .out .now) (written-as (rw sub-zero (written-front (p .put-text .ensures))) (c .before .before .put .ensures)) in
+    (t .0, (t .1, few p))
+
+pub text-spec : {M : Type 1} → statement M
+text-spec =
+    tie.close
+    (tie.spec
+    slice-aggregate-put-text
+    slice-aggregate-put-text-2
+    put-text-requires
+    returns
+    sub-put
+    part-put-start
+    part-put-end
+    put-requires
+    same-length
+    returns-2)
