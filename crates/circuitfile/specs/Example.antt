@@ -1,16 +1,17 @@
--- Document 01's own circuit file, the text that it states for it, and its plan.
+-- Document 01's own circuit file, the text that it states for it, and its plan; what the file with one fault or two is refused for; and the largest
+-- bound that fits. All is computed by the definitions.
 use mathlib.Core.Path.{_≡_, refl}
 use mathlib.Core.List.{List, [], _∷_, flatMap}
-use Prim.Native.Nat.{ℕ}
-use lib.ListN.{replicate}
+use Prim.Native.Nat.{ℕ, _+_, _*_}
+use lib.ListN.{take, set, replicate}
 use Rattle.whole.specs.Lists.{tabulate}
-use Rattle.refusal.specs.First.{firstOf, doneOr, someTrue}
+use Rattle.refusal.specs.First.{firstOf, firstTrue, doneOr, someTrue}
 use Rattle.refusal.specs.Parameters.{inRange}
 use Rattle.scheme.specs.Arithmetic.{XOR-bound, AND-bound, NOT-bound, fits}
 use Rattle.scheme.specs.Calls.{badParams, differs, overBudget}
-use Rattle.circuit.specs.Circuits.{byKind, run, gateBound, wrongGate, wrongGates, boundsOf, overGates, badCounts, gateRows}
-use Rattle.circuitfile.specs.File.{bigEndian, field, isKnown, fileParams, fileInputs, fileGateCount, fileGate, fileGates, fileInputBounds, fileBounds, headRows, fileGateRows, checkNumber, planNumber, fourBytes, planFileBuffer}
-use Rattle.circuitfile.specs.Text.{text, wordIN, wordXOR, wordAND, wordNOT, wordOK, digitsUpTo, digits, wireLine, kindWord, wireLines, largestBound, okLine}
+use Rattle.circuit.specs.Circuits.{byKind, run, gateBound, wrongGate, wrongGates, boundsOf, overGates, badCounts, gateRows, placeOf}
+use Rattle.circuitfile.specs.File.{bigEndian, field, isKnown, fileParams, fileInputs, fileGateCount, fileGate, fileGates, fileInputBounds, fileBounds, headRows, fileGateRows, checkNumber, planNumber, filePlace, checkAnswer, planFileAnswer, fourBytes, planFileBuffer}
+use Rattle.circuitfile.specs.Text.{text, wordIN, wordXOR, wordAND, wordNOT, wordOK, wordREFUSED, digitsUpTo, digits, wireLine, kindWord, wireLines, largestBound, okLine, refusedLine}
 
 abbrev exampleFile : List ℕ
 exampleFile =
@@ -41,3 +42,39 @@ example-holds = refl
 pub example-planned : planFileBuffer exampleFile (replicate 20 255) ≡ flatMap (λ B. 0 ∷ 0 ∷ 0 ∷ B ∷ []) (2 ∷ 2 ∷ 34 ∷ 34 ∷ 36 ∷ [])
 unfolding flatMap tabulate firstOf doneOr someTrue inRange XOR-bound AND-bound NOT-bound fits badParams differs overBudget byKind run gateBound wrongGate wrongGates boundsOf overGates badCounts gateRows bigEndian field isKnown fileParams fileInputs fileGateCount fileGate fileGates fileInputBounds fileBounds headRows fileGateRows planNumber planFileBuffer fourBytes
 example-planned = refl
+
+-- ---- the file with faults
+
+-- gate 1 is of kind 3, which is none
+abbrev wrongKind : List ℕ
+wrongKind = set exampleFile 28 3
+
+-- E is 2,031, and so the AND of gate 0 would have the bound 16,391
+abbrev overBudgetFile : List ℕ
+overBudgetFile = set (set exampleFile 15 0x07) 16 0xEF
+
+-- the last byte is missing
+abbrev cutFile : List ℕ
+cutFile = take 37 exampleFile
+
+-- REFUSED 10 0
+pub example-refused : text overBudgetFile ≡ 82 ∷ 69 ∷ 70 ∷ 85 ∷ 83 ∷ 69 ∷ 68 ∷ 32 ∷ 49 ∷ 48 ∷ 32 ∷ 48 ∷ 10 ∷ []
+unfolding tabulate firstOf firstTrue doneOr someTrue inRange XOR-bound AND-bound NOT-bound fits badParams differs overBudget byKind run gateBound wrongGate wrongGates boundsOf overGates badCounts gateRows placeOf bigEndian field isKnown fileParams fileInputs fileGateCount fileGate fileGates fileInputBounds fileBounds headRows fileGateRows checkNumber filePlace text wordREFUSED digitsUpTo digits refusedLine
+example-refused = refl
+
+-- the check answers 9 for gate 1 and 10 for gate 0
+pub example-checked : checkAnswer wrongKind ∷ checkAnswer overBudgetFile ∷ checkAnswer cutFile ∷ [] ≡ (9 * 65536 + 1) ∷ (10 * 65536) ∷ (12 * 65536) ∷ []
+unfolding tabulate firstOf firstTrue someTrue inRange XOR-bound AND-bound NOT-bound fits badParams differs overBudget byKind run gateBound wrongGate wrongGates boundsOf overGates badCounts gateRows placeOf bigEndian field isKnown fileParams fileInputs fileGateCount fileGate fileGates fileInputBounds fileBounds headRows fileGateRows checkNumber filePlace checkAnswer
+example-checked = refl
+
+-- planning the same in a buffer that is a byte short: 3 comes before 9 and 10, and after 12
+pub example-order : planFileAnswer wrongKind (replicate 19 255) ∷ planFileAnswer overBudgetFile (replicate 19 255) ∷ planFileAnswer cutFile (replicate 19 255) ∷ []
+    ≡ (3 * 65536) ∷ (3 * 65536) ∷ (12 * 65536) ∷ []
+unfolding tabulate firstOf firstTrue someTrue inRange XOR-bound AND-bound NOT-bound fits badParams differs overBudget byKind run gateBound wrongGate wrongGates boundsOf overGates badCounts gateRows placeOf bigEndian field isKnown fileParams fileInputs fileGateCount fileGate fileGates fileInputBounds fileBounds headRows fileGateRows planNumber filePlace planFileAnswer
+example-order = refl
+
+-- ---- the largest bound that fits: where q is a multiple of four, and where it is not
+
+pub largest-bounds : largestBound 16 ∷ largestBound 18 ∷ largestBound 65536 ∷ [] ≡ 3 ∷ 4 ∷ 16383 ∷ []
+unfolding largestBound
+largest-bounds = refl
