@@ -1,14 +1,19 @@
 #!/usr/bin/env python3
 """Reads the hot loops out of object code, on any machine: nothing is run.
 
-object.py count ARCHIVE            the instructions of the row loop and of the range check; exit status 1 where they miss their target
-object.py cycles ARCHIVE OBJECT    what llvm-mca says of both, and of the __int128 loop in OBJECT, in cycles an entry
+object.py count ARCHIVE [--markdown]            the instructions of the row loop and of the range check, and the divisions of the tensor's loop;
+                                                exit status 1 where they miss their target
+object.py cycles ARCHIVE OBJECT [--markdown]    what llvm-mca says of the row loop, of the range check and of the __int128 loop in OBJECT, in
+                                                cycles an entry
 
-A hot loop is one block of code: a jump back, with no other jump and no jump's target on the way.
+A hot loop is one block of code: a jump back, with no other jump and no jump's target on the way. The tensor's has several blocks (flow.py).
 """
 import re
 import subprocess
 import sys
+
+import flow
+from table import show, verdict
 
 # for each processor, the names to ask llvm-mca for and how that processor's own model names its parts: the first that it has a model of
 PROCESSORS = {
@@ -117,23 +122,40 @@ def wide_loop(path):
     return longest(path, "__int128 loop", lambda l: l.count("imul") > 0 and l.count("adc") > 0)
 
 
-def verdict(met):
-    return "met" if met else "MISSED"
+def divisions(archive):
+    """How many divisions an entry of the tensor takes, on the way through its loop that has most. Its loop is one with none inside, which makes a
+    product and divides it with its sign; it stands in the code as often as it was inlined, and all are looked at."""
+    found = []
+    for code in functions(archive):
+        for loop in flow.innermost(code):
+            names = [code[k].name for k in loop[1]]
+            if any(name.startswith("imul") for name in names) and any(name.startswith("idiv") for name in names):
+                divided = flow.through(loop, lambda k: code[k].name.startswith(("div", "idiv")), max)
+                entries = flow.through(loop, lambda k: code[k].name.startswith("imul"), min)
+                found.append(divided / max(entries, 1))
+    if not found:
+        fail(f"{archive}: there is no tensor's loop: no innermost loop has imul and idiv")
+    return max(found), len(found)
 
 
-def count(archive):
+def count(archive, as_markdown):
     """Prints what the loops are made of, and says whether that is the target."""
     row, check = row_loop(archive), range_loop(archive)
     entries = 2 * check.packed_loads()
     size, products, packed = len(row.instructions), row.count("imul"), row.count("pmuludq")
     row_met = size <= 64 and products == 16 and packed == 0
     check_met = entries >= 4
-    row_told = f"{size} instructions, {products} imul, {packed} pmuludq for 16 entries"
+    row_told = f"{size} instructions, {products} `imul`, {packed} `pmuludq` for 16 entries"
     check_told = f"{4 * len(check.instructions) / max(entries, 1):g} instructions for 4 entries, {entries} entries a turn"
-    print("object code")
-    print(f"  {'row loop':<14}{row_told:<58}at most 64, 16, 0: {verdict(row_met)}")
-    print(f"  {'range check':<14}{check_told:<58}vectorised: {verdict(check_met)}")
-    return row_met and check_met
+    divided, places = divisions(archive)
+    divided_told = f"{divided:g} {'division' if divided == 1 else 'divisions'} an entry at most, in {places} places"
+    told = [
+        ["row loop", row_told, "at most 64, 16, 0", verdict(row_met)],
+        ["range check", check_told, "vectorised", verdict(check_met)],
+        ["tensor", divided_told, "at most 1", verdict(divided <= 1)],
+    ]
+    show("Object code", ["", "found", "target", ""], told, as_markdown)
+    return row_met and check_met and divided <= 1
 
 
 def mca(processor, text):
@@ -159,12 +181,12 @@ def cycles(processor, loop, entries):
 
 
 def line(what, numbers, most=None):
-    """One row of the table; numbers above the most are marked."""
-    told = [f"{x:.2f}" + ("" if most is None else "  " + verdict(x <= most)) for x in numbers]
-    print(f"  {what:<38}" + "".join(f"{t:<18}" for t in told).rstrip())
+    """One row of the table; where there is a most, with what is held against it."""
+    held = ["", ""] if most is None else [f"at most {most:.1f}", verdict(all(x <= most for x in numbers))]
+    return [what] + [f"{x:.2f}" for x in numbers] + held
 
 
-def compare(archive, path):
+def compare(archive, path, as_markdown):
     """Prints cycles an entry of the three loops, for each processor, and their ratios."""
     row, check, wide = row_loop(archive), range_loop(archive), wide_loop(path)
     models = {asked: nearest(names) for asked, names in PROCESSORS.items()}
@@ -172,22 +194,25 @@ def compare(archive, path):
     by_check = [cycles(m, check, 2 * check.packed_loads()) for m in models.values()]
     by_wide = [cycles(m, wide, wide.count("imul")) for m in models.values()]
     version = re.search(r"LLVM version (\S+)", subprocess.run(["llvm-mca", "--version"], capture_output=True, text=True).stdout).group(1)
-    print(f"cycles an entry by llvm-mca {version}".ljust(40) + "".join(f"{m if m == a else a + ' *':<18}" for a, m in models.items()).rstrip())
-    line("row loop", by_row)
-    line("C with __int128", by_wide)
-    line("row loop / __int128, at most 0.80", [r / w for r, w in zip(by_row, by_wide)], 0.8)
-    line("range check", by_check)
-    line("range check / row loop, at most 1.20", [c / r for c, r in zip(by_check, by_row)], 1.2)
-    for asked, model in models.items():
-        if model != asked:
-            print(f"  * {model}, the nearest: this llvm-mca has no model of {asked}")
+    rows = [
+        line("row loop", by_row),
+        line("C with `__int128`", by_wide),
+        line("row loop / `__int128`", [r / w for r, w in zip(by_row, by_wide)], 0.8),
+        line("range check", by_check),
+        line("range check / row loop", [c / r for c, r in zip(by_check, by_row)], 1.2),
+    ]
+    others = [f"{model} in place of {asked}, of which it has no model" for asked, model in models.items() if model != asked]
+    title = f"Cycles an entry by llvm-mca {version}" + "".join(", " + other for other in others)
+    show(title, ["", *models.values(), "target", ""], rows, as_markdown)
 
 
 def main(words):
+    as_markdown = words[-1:] == ["--markdown"]
+    words = words[: len(words) - as_markdown]
     if len(words) == 2 and words[0] == "count":
-        return 0 if count(words[1]) else 1
+        return 0 if count(words[1], as_markdown) else 1
     if len(words) == 3 and words[0] == "cycles":
-        compare(words[1], words[2])
+        compare(words[1], words[2], as_markdown)
         return 0
     print(__doc__, file=sys.stderr)
     return 2

@@ -1,8 +1,7 @@
-#include <string.h>
-#include "loops.h"
 #include "plain.h"
+#include <string.h>
 
-enum { XOR, AND, NOT };
+enum { MOST_INPUTS = 1024, MOST_GATES = 4096, HEAD = 23, RECORD = 5 };
 
 /* ---- the refusals */
 
@@ -11,14 +10,7 @@ static int in_range(struct params p) {
            p.f <= 65535;
 }
 
-static int counts_in_range(struct circuit c) { return 1 <= c.inputs && c.inputs <= 1024 && 1 <= c.gates && c.gates <= 4096; }
-
-/* Whether every entry is in -modulus/2 to modulus/2-1. */
-static int all_residues(const int64_t *xs, uint64_t count, int64_t modulus) {
-    for (uint64_t j = 0; j < count; j++)
-        if (xs[j] < -modulus / 2 || modulus / 2 <= xs[j]) return 0;
-    return 1;
-}
+static int counts_in_range(struct circuit c) { return 1 <= c.inputs && c.inputs <= MOST_INPUTS && 1 <= c.gates && c.gates <= MOST_GATES; }
 
 static int fits(uint32_t q, uint64_t bound) { return 4 * bound < q; }
 
@@ -47,59 +39,112 @@ static uint64_t gate_bound(struct params p, uint32_t kind, uint64_t b1, uint64_t
     return (2 * q * l * (b1 + b2) + 4 * b1 * b2 + q * l * l) / (2 * q) + (n * n * p.f + l) / 2;
 }
 
+/* The bound of each gate's wire, after those of the inputs: 0, or 10 where one does not fit. */
+static uint32_t settle(struct params p, struct circuit c, uint32_t *table) {
+    for (uint64_t g = 0; g < c.gates; g++) {
+        const uint64_t bound = gate_bound(p, c.kinds[g], table[c.lefts[g]], table[c.rights[g]]);
+        if (!fits(p.q, bound)) return 10;
+        table[c.inputs + g] = (uint32_t)bound;
+    }
+    return 0;
+}
+
 uint32_t plain_plan(struct params p, struct circuit c, uint32_t *bounds, uint64_t bounds_len) {
-    uint32_t table[5120];
+    uint32_t table[MOST_INPUTS + MOST_GATES];
     if (!in_range(p)) return 1;
     if (!counts_in_range(c)) return 2;
     if (bounds_len != c.inputs + c.gates) return 3;
     if (!all_fit(p.q, bounds, c.inputs)) return 8;
     if (!all_right(c)) return 9;
     memcpy(table, bounds, c.inputs * sizeof *table);
-    for (uint64_t g = 0; g < c.gates; g++) {
-        const uint64_t bound = gate_bound(p, c.kinds[g], table[c.lefts[g]], table[c.rights[g]]);
-        if (!fits(p.q, bound)) return 10;
-        table[c.inputs + g] = (uint32_t)bound;
-    }
-    memcpy(bounds + c.inputs, table + c.inputs, c.gates * sizeof *table);
-    return 0;
+    const uint32_t number = settle(p, c, table);
+    if (number == 0) memcpy(bounds + c.inputs, table + c.inputs, c.gates * sizeof *table);
+    return number;
 }
 
-/* ---- evaluation */
-
-static void work_xor(int64_t q, uint64_t n, const int64_t *c, const int64_t *d, int64_t *out) {
-    for (uint64_t i = 0; i < n; i++) out[i] = centred(c[i] + d[i], q);
-}
+/* ---- the gates */
 
 static void work_not(int64_t q, uint64_t n, const int64_t *c, int64_t *out) {
     memcpy(out, c, n * sizeof *out);
     out[0] = centred(c[0] + q / 2, q);
 }
 
-static void work_and(int64_t q, uint64_t n, const int64_t *c, const int64_t *d, const int64_t *key, int64_t *t, int64_t *out) {
-    for (uint64_t u = 0; u < n; u++)
-        for (uint64_t v = 0; v < n; v++) t[u * n + v] = centred(round_int64(2 * c[u] * d[v], q), q);
-    switch_int128((uint32_t)q, t, n * n, key, out, n);
+static void work_and(const struct arithmetic *with, int64_t q, uint64_t n, const int64_t *c, const int64_t *d, struct buffers b, int64_t *out) {
+    with->tensor(q, c, d, b.scratch, n);
+    with->change(q, b.scratch, n * n, b.key, out, n);
 }
 
-static void work(struct params p, struct circuit c, struct buffers b) {
+uint32_t plain_xor(const struct arithmetic *with, struct params p, struct cipher c, struct cipher d, int64_t *out, uint64_t out_len) {
+    if (!in_range(p)) return 1;
+    if (c.len != p.n || d.len != p.n || out_len != p.n) return 3;
+    if (!with->all_residues(c.entries, c.len, p.q) || !with->all_residues(d.entries, d.len, p.q)) return 6;
+    if (!fits(p.q, c.bound) || !fits(p.q, d.bound)) return 8;
+    if (!fits(p.q, (uint64_t)c.bound + d.bound)) return 10;
+    with->sum(p.q, c.entries, d.entries, out, p.n);
+    return 0;
+}
+
+uint32_t plain_not(const struct arithmetic *with, struct params p, struct cipher c, int64_t *out, uint64_t out_len) {
+    if (!in_range(p)) return 1;
+    if (c.len != p.n || out_len != p.n) return 3;
+    if (!with->all_residues(c.entries, c.len, p.q)) return 6;
+    if (!fits(p.q, c.bound)) return 8;
+    work_not(p.q, p.n, c.entries, out);
+    return 0;
+}
+
+/* ---- evaluation */
+
+static void work(const struct arithmetic *with, struct params p, struct circuit c, struct buffers b) {
     const uint64_t n = p.n;
     for (uint64_t g = 0; g < c.gates; g++) {
         const int64_t *left = b.wires + c.lefts[g] * n, *right = b.wires + c.rights[g] * n;
         int64_t *own = b.wires + (c.inputs + g) * n;
-        if (c.kinds[g] == XOR) work_xor(p.q, n, left, right, own);
-        if (c.kinds[g] == AND) work_and(p.q, n, left, right, b.key, b.scratch, own);
+        if (c.kinds[g] == XOR) with->sum(p.q, left, right, own, n);
+        if (c.kinds[g] == AND) work_and(with, p.q, n, left, right, b, own);
         if (c.kinds[g] == NOT) work_not(p.q, n, left, own);
     }
     memset(b.scratch, 0, n * n * sizeof *b.scratch);
 }
 
-uint32_t plain_evaluate(struct params p, struct circuit c, struct buffers b) {
+uint32_t plain_evaluate(const struct arithmetic *with, struct params p, struct circuit c, struct buffers b) {
     const uint64_t n = p.n, total = c.inputs + c.gates;
     if (!in_range(p)) return 1;
     if (!counts_in_range(c)) return 2;
     if (b.wires_len != total * n || b.bounds_len != total || b.key_len != n * n * n || b.scratch_len != n * n) return 3;
-    if (!all_residues(b.wires, c.inputs * n, p.q) || !all_residues(b.key, b.key_len, (int64_t)p.q * p.q)) return 6;
+    if (!with->all_residues(b.wires, c.inputs * n, p.q) || !with->all_residues(b.key, b.key_len, (int64_t)p.q * p.q)) return 6;
     const uint32_t number = plain_plan(p, c, b.bounds, b.bounds_len);
-    if (number == 0) work(p, c, b);
+    if (number == 0) work(with, p, c, b);
     return number;
+}
+
+/* ---- the file check */
+
+static uint32_t two(const uint8_t *at) { return (uint32_t)at[0] << 8 | at[1]; }
+
+static uint32_t four(const uint8_t *at) { return two(at) << 16 | two(at + 2); }
+
+/* Fills the three lists from the gates' records. */
+static void list_gates(const uint8_t *records, uint64_t gates, uint32_t *kinds, uint32_t *lefts, uint32_t *rights) {
+    for (uint64_t g = 0; g < gates; g++) {
+        const uint8_t *record = records + g * RECORD;
+        kinds[g] = record[0];
+        lefts[g] = two(record + 1);
+        rights[g] = two(record + 3);
+    }
+}
+
+uint32_t plain_check(const uint8_t *file, uint64_t file_len) {
+    uint32_t kinds[MOST_GATES], lefts[MOST_GATES], rights[MOST_GATES], table[MOST_INPUTS + MOST_GATES];
+    if (file_len < HEAD) return 12;
+    if (memcmp(file, "GAT\0\1", 5) != 0) return 11;
+    const struct params p = {two(file + 5), four(file + 7), two(file + 11), four(file + 13), two(file + 17)};
+    const struct circuit c = {two(file + 19), two(file + 21), kinds, lefts, rights};
+    if (!in_range(p)) return 1;
+    if (!counts_in_range(c)) return 2;
+    if (file_len != HEAD + RECORD * c.gates) return 12;
+    list_gates(file + HEAD, c.gates, kinds, lefts, rights);
+    if (!all_right(c)) return 9;
+    for (uint64_t w = 0; w < c.inputs; w++) table[w] = p.e;
+    return settle(p, c, table);
 }
