@@ -93,6 +93,8 @@ static void lend(uint64_t size) {
     memcpy(theirs.wires, ours.wires, INPUTS * n * sizeof *ours.wires);
 }
 
+static void warm(void) { read_key(keys[WHOLE_KEY], entries); }
+
 /* ---- the works */
 
 static const struct arithmetic *way(enum who who) { return who == INT128 ? &straight : &same_shape; }
@@ -202,7 +204,7 @@ static void whole_circuit(unsigned which, enum who who, uint32_t times) {
 /* ---- how often: so that a time taken is some milliseconds at least */
 
 static uint32_t often(uint64_t steps) {
-    const uint64_t times = 4000000 / steps;
+    const uint64_t times = 8000000 / steps;
     return times < 2 ? 2 : (uint32_t)times;
 }
 
@@ -299,4 +301,4 @@ static int agree(void) {
     return 1;
 }
 
-const struct family by_n = {works, sizeof works / sizeof *works, lend, agree};
+const struct family by_n = {works, sizeof works / sizeof *works, lend, warm, agree};

@@ -41,13 +41,13 @@ class Panel:
         self.text(self.left, TOP - 34, title, anchor="start", more=' font-size="14" font-weight="bold"')
         self.text(self.left, TOP - 14, up, GREY, "start")
 
-    def slope(self, power, through, words, side):
-        """A line of one slope through a point, from one side to the other, with its words at the first or the last end."""
+    def slope(self, power, through, end, shift):
+        """A line of one slope through a point, from side to side, with its words at the first or the last end."""
         at, value = through
         ends = [(x, value * (x / at) ** power) for x in (self.xs[0], self.xs[-1])]
         self.line([(self.x(x), self.y(v)) for x, v in ends], GREY, ' stroke-width="1" stroke-dasharray="5 4"')
-        x, v = ends[side]
-        self.text(self.x(x) + (6, -6)[side], self.y(v) + (18, -10)[side], words, GREY, ("start", "end")[side])
+        x, v = ends[end]
+        self.text(self.x(x) + shift[0], self.y(v) + shift[1], f"slope {power}", GREY, "start" if shift[0] > 0 else "end")
 
     def series(self, name, points, words, at, shift):
         """The measured points, joined, with their name beside one of them."""
@@ -60,29 +60,29 @@ class Panel:
         self.text(x + shift[0], y + shift[1], words, colour, "start" if shift[0] > 0 else "end", ' font-weight="bold"')
 
 
-def powers(values):
-    """The powers of ten around all values."""
-    return math.floor(math.log10(min(values))), math.ceil(math.log10(max(values)))
+def powers(costs):
+    """The powers of ten around all costs, with some room below."""
+    values = [value for points in costs.values() for value in points.values()]
+    return math.floor(math.log10(min(values) / 2)), math.ceil(math.log10(max(values)))
 
 
 def by_n(left, costs, unit):
-    widths = sorted(costs["and"])
-    panel = Panel(left, widths, powers([v for points in costs.values() for v in points.values()]))
+    panel = Panel(left, sorted(costs["and"]), powers(costs))
     panel.axes("A gate by n", "n, entries of a ciphertext", f"{unit} a gate")
     middle = 64
-    panel.slope(3, (middle, costs["and"][middle]), "slope 3", 1)
-    panel.slope(1, (middle, costs["xor"][middle]), "slope 1", 1)
-    panel.slope(1, (middle, costs["not"][middle]), "slope 1", 1)
+    panel.slope(3, (middle, costs["and"][middle]), 0, (12, 16))
+    panel.slope(1, (middle, costs["xor"][middle]), -1, (-8, -14))
+    panel.slope(1, (middle, costs["not"][middle]), -1, (-8, 28))
     for name in costs:
-        panel.series(name, costs[name], name.upper(), 2, (-8, -8) if name == "and" else (8, 18))
+        panel.series(name, costs[name], name.upper(), 2, (8, 18) if name == "not" else (-8, -8))
     return panel.out
 
 
 def by_gates(left, costs, unit):
     counts = sorted(costs["plan"])
-    panel = Panel(left, counts, powers([v for points in costs.values() for v in points.values()]))
+    panel = Panel(left, counts, powers(costs))
     panel.axes("A circuit by its gates", "gates", f"{unit} a circuit")
-    panel.slope(1, (counts[-1], costs["plan"][counts[-1]]), "slope 1", 0)
+    panel.slope(1, (counts[-1], costs["plan"][counts[-1]]), 0, (8, 18))
     panel.series("plan", costs["plan"], "planning", 2, (10, 18))
     panel.series("check", costs["check"], "file check", 1, (-8, -8))
     return panel.out

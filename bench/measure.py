@@ -32,9 +32,12 @@ def done(words, **more):
 
 
 class Clock:
-    """Nanoseconds of processor time. All works that are asked for at one size run in turn in one process, many times."""
+    """Nanoseconds of processor time. All works that are asked for at one size run in turn in one process, many times; and that in several processes,
+    since each lays its memory elsewhere."""
 
     unit = "ns"
+    words = "nanoseconds on x86-64,"
+    processes = 4
 
     def __init__(self, program):
         self.program = program
@@ -44,8 +47,9 @@ class Clock:
         done([self.program, "agree", str(size), work])
 
     def costs(self, size, works, turns):
-        """The cost of each work."""
-        columns = list(zip(*self.lines([self.program, "clock", str(size), str(turns), *works])))
+        """The cost of each work, from so many turns in all."""
+        words = [self.program, "clock", str(size), str(turns // self.processes), *works]
+        columns = list(zip(*[line for _ in range(self.processes) for line in self.lines(words)]))
         return {work: Cost(columns[2 * k], columns[2 * k + 1]) for k, work in enumerate(works)}
 
     @staticmethod
@@ -54,9 +58,11 @@ class Clock:
 
 
 class Counter:
-    """Instructions executed: the same in every run, so that one is enough."""
+    """Instructions executed: the same in every run, so that one is enough. The processor is a plain one, with which C's library sets and copies
+    memory by loops: of an instruction that repeats itself the emulator counts every turn."""
 
     unit = "instructions"
+    words = "instructions of x86-64,"
 
     def __init__(self, program, plugin):
         self.program = program
@@ -65,7 +71,7 @@ class Counter:
     def emulated(self, *words):
         with tempfile.TemporaryDirectory() as folder:
             told = os.path.join(folder, "told")
-            done(["qemu-x86_64", "-plugin", self.plugin, "-d", "plugin", "-D", told, self.program, *words])
+            done(["qemu-x86_64", "-cpu", "qemu64", "-plugin", self.plugin, "-d", "plugin", "-D", told, self.program, *words])
             with open(told) as lines:
                 return int(lines.read())
 

@@ -16,7 +16,7 @@ WIDTHS = (16, 64, 128, 256)
 MORE_WIDTHS = (8, 32)
 GATES = (256, 512, 1024, 2048, 4096)
 CIRCUIT_WIDTH, CIRCUIT_GATES = 64, 200
-TURNS = {128: 60, 256: 30}
+TURNS = {128: 40, 256: 28}
 
 # each work, who does it beside Rattle, its name in the table and what its cost is told for
 BY_N = {
@@ -51,13 +51,13 @@ def measured(how):
     for n in WIDTHS:
         how.check(n, "switch")
         more = asked({"circuit": CIRCUIT}) if n == CIRCUIT_WIDTH else []
-        by_n[n] = how.costs(n, asked(BY_N) + more, TURNS.get(n, 100))
+        by_n[n] = how.costs(n, asked(BY_N) + more, TURNS.get(n, 60))
     for n in MORE_WIDTHS:
         how.check(n, "switch")
-        by_n[n] = how.costs(n, ["and:rattle", "xor:rattle", "not:rattle"], 100)
+        by_n[n] = how.costs(n, ["and:rattle", "xor:rattle", "not:rattle"], 60)
     for gates in GATES:
         how.check(gates, "plan")
-        by_gates[gates] = how.costs(gates, asked(BY_GATES), 100)
+        by_gates[gates] = how.costs(gates, asked(BY_GATES), 60)
     return by_n, by_gates
 
 
@@ -107,7 +107,7 @@ def draw(how, by_n, by_gates, path):
     by_width = {name: {n: by_n[n][f"{name}:rattle"].least() for n in sorted(by_n)} for name in ("and", "xor", "not")}
     by_count = {name: {g: by_gates[g][f"{name}:rattle"].least() for g in GATES} for name in BY_GATES}
     with open(path, "w", encoding="utf-8") as file:
-        file.write(growth.drawing(by_width, by_count, "nanoseconds" if isinstance(how, Clock) else how.unit))
+        file.write(growth.drawing(by_width, by_count, how.words))
 
 
 def main():

@@ -15,11 +15,13 @@ struct work {
     uint32_t (*times)(unsigned which); /* how often it is done for one time that is taken */
 };
 
-/* Works on loans of one size. `lend` makes the loans; `agree` says whether Rattle and C leave equal buffers on them. */
+/* Works on loans of one size. `lend` makes the loans; `warm` reads through them, so that everyone finds the cache alike; `agree` says whether Rattle
+   and C leave equal buffers on them. */
 struct family {
     const struct work *works;
     unsigned count;
     void (*lend)(uint64_t size);
+    void (*warm)(void);
     int (*agree)(void);
 };
 

@@ -61,14 +61,18 @@ static double now(void) {
     return (double)s.tv_sec * 1e9 + (double)s.tv_nsec;
 }
 
+static double clock_part(struct chosen c, void (*part)(unsigned, enum who, uint32_t), uint32_t times) {
+    c.family->warm();
+    const double began = now();
+    part(c.work->which, c.who, times);
+    return (now() - began) / times;
+}
+
 /* Tells the time of the run and that of the rest, for the work done once. */
 static void clock_one(struct chosen c) {
     const uint32_t times = c.work->times(c.work->which);
-    const double began = now();
-    c.work->rest(c.work->which, c.who, times);
-    const double rested = now();
-    c.work->run(c.work->which, c.who, times);
-    printf("%.2f %.2f ", (now() - rested) / times, (rested - began) / times);
+    const double rest = clock_part(c, c.work->rest, times), run = clock_part(c, c.work->run, times);
+    printf("%.2f %.2f ", run, rest);
 }
 
 static void clock_all(const struct chosen *all, unsigned count, unsigned turns) {
