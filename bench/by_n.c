@@ -93,7 +93,10 @@ static void lend(uint64_t size) {
     memcpy(theirs.wires, ours.wires, INPUTS * n * sizeof *ours.wires);
 }
 
-static void warm(void) { read_key(keys[WHOLE_KEY], entries); }
+/* Several passes, as it takes some until a cache beyond the core's own holds what it can of the key; it holds little of the largest. */
+static void warm(void) {
+    for (unsigned pass = 0; pass < (n <= 128 ? 8 : 1); pass++) read_key(keys[WHOLE_KEY], entries);
+}
 
 /* ---- the works */
 
@@ -201,10 +204,11 @@ static void whole_circuit(unsigned which, enum who who, uint32_t times) {
         for (uint32_t k = 0; k < times; k++) evaluate_circuit(who);
 }
 
-/* ---- how often: so that a time taken is some milliseconds at least */
+/* ---- how often: so that a time taken is some milliseconds at least. Where the key is more than the core's own cache holds, it is gone through more
+   often, since the first passes take longer than the later ones */
 
 static uint32_t often(uint64_t steps) {
-    const uint64_t times = 8000000 / steps;
+    const uint64_t times = (n < 128 ? 8000000 : 32000000) / steps;
     return times < 2 ? 2 : (uint32_t)times;
 }
 

@@ -16,7 +16,7 @@ WIDTHS = (16, 64, 128, 256)
 MORE_WIDTHS = (8, 32)
 GATES = (256, 512, 1024, 2048, 4096)
 CIRCUIT_WIDTH, CIRCUIT_GATES = 64, 200
-TURNS = {128: 40, 256: 28}
+TURNS = {128: 20, 256: 28}
 
 # each work, who does it beside Rattle, its name in the table and what its cost is told for
 BY_N = {
