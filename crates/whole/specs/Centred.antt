@@ -2,17 +2,17 @@
 use mathlib.Core.Path.{_≡_, refl, sym, ap, ap₂, _∙_}
 use mathlib.Core.Bool.{Bool, true, false, cond}
 use mathlib.Core.List.{[], _∷_}
-use Prim.Native.Nat.{ℕ, zero, suc, _+_, _*_, _≤_, _<_}
+use Prim.Native.Nat.{ℕ, _+_, _*_, _≤_, _<_}
 use native.Mathlib.Omega.{arith}
 use native.Mathlib.Nat.{le-of-eq}
 use lib.Dec.{ltb}
 use borrow.Author.Tests.{ltb-true, ltb-false}
-use lib.IntN.{ℤ, pos, negsuc, negℤ, _+ℤ_, _-ℤ_, _*ℤ_, +ℤ-idr, +ℤ-assoc, zero-*ℤ, natAbs}
+use lib.IntN.{ℤ, pos, negℤ, _+ℤ_, _-ℤ_, _*ℤ_, +ℤ-idr, +ℤ-assoc, zero-*ℤ, natAbs}
 use lib.Signed.{_≤ℤ_, _<ℤ_, shrZ, ltZ}
 use Rattle.whole.specs.Tests.{ltZ-true, ltZ-false}
 use Rattle.whole.specs.Laws.{*ℤ-distr}
 use Rattle.whole.specs.Ring.{by-ring, quote}
-use Rattle.whole.specs.Split.{up, dn, zarith, add-is, sub-is, mul-is, up-neg, dn-neg, size-is, apart}
+use Rattle.whole.specs.Split.{zarith, add-is, sub-is, mul-is, up-neg, dn-neg, size-is, apart}
 use Rattle.whole.specs.Floor.{Floor, floor-is, floor-unique, next-multiple}
 
 -- what is left of x after taking off whole multiples of q: a number in 0 to q−1

@@ -1,11 +1,11 @@
 -- Division rounded down, by a natural: the library's `shrZ x b`. It is the one k with k·b ≤ x < (k+1)·b.
-use mathlib.Core.Path.{_≡_, refl, sym, ap, _∙_}
+use mathlib.Core.Path.{_≡_, ap, _∙_}
 use Prim.Native.Nat.{ℕ, zero, suc, _+_, _*_, _/_, _%_, _≤_, _<_}
 use native.Mathlib.Omega.{arith}
 use native.Mathlib.Nat.{div-zero, div-mul-le-self, le-div-iff-mul-le, zero-lt-suc, div-add-mod', mod-lt, add-mul, lt-of-mul-lt-mul-right, mul-le-mul-right, suc-mul}
-use lib.IntN.{ℤ, pos, negsuc, negℤ, _+ℤ_, _-ℤ_, _*ℤ_, +ℤ-one, sucℤ-*ℤ}
+use lib.IntN.{ℤ, pos, negsuc, _+ℤ_, _*ℤ_, +ℤ-one, sucℤ-*ℤ}
 use lib.Signed.{_≤ℤ_, _<ℤ_, shrZ}
-use Rattle.whole.specs.Split.{up, dn, zarith, add-is, sub-is, mul-is, le-in, lt-in, le-out, lt-out}
+use Rattle.whole.specs.Split.{up, dn, zarith, add-is, mul-is, le-in, lt-in, le-out, lt-out}
 
 -- the order of multiples is the order of their factors
 pub times-lt : (b : ℕ) (k j : ℤ) → (k *ℤ pos b) <ℤ (j *ℤ pos b) → k <ℤ j

@@ -14,10 +14,6 @@ use lib.ListN.{length, getD, take, drop, set, length-append, length-map, length-
 use lib.Seq.{getD-take, getD-drop, length-take-le, take-suc, take-all, take-take, take-add, take-at, drop-at, drop-drop, getD-append-add, paste-suc, length-front}
 use borrow.Author.Tests.{ne-eqb}
 
--- two lists entry by entry (`zipWith`, the library's), all pairs of two lists (`grid`), a list in rows (`cut`, `flatten`), and a list
--- that is being filled from its start (`Filled`).
--- An entry is read by `getD xs i d`; where i is below the length the default d does not matter, so the laws hold for any.
-
 -- ---- a list given by its entries
 
 module _ {ℓ} {A : Type ℓ} where
@@ -77,6 +73,12 @@ module _ {ℓ κ} {A : Type ℓ} {B : Type κ} where
   getD-map f [] i a b h = absurd (not-suc-le-zero h)
   getD-map f (x ∷ xs) zero a b h = refl
   getD-map f (x ∷ xs) (suc i) a b h = getD-map f xs i a b (le-of-suc-le-suc h)
+
+  -- the first n entries of a map are a map of the first n
+  pub take-map : (f : A → B) (n : ℕ) (xs : List A) → take n (map f xs) ≡ map f (take n xs)
+  take-map f zero xs = refl
+  take-map f (suc n) [] = refl
+  take-map f (suc n) (x ∷ xs) = ap (λ (r : List B). f x ∷ r) (take-map f n xs)
 
 -- ---- a statement of every entry
 
@@ -267,6 +269,10 @@ module _ {ℓ} {A : Type ℓ} where
   fill-end {target} {found} {out} {i} f h =
       let whole : length target ≤ i = omega arith in
       rw (f .so-far, take-all i target, drop-of-length-le found, append-nil)
+
+  -- on the way the first i are the target's
+  pub fill-front : {target found out : List A} {i : ℕ} → Filled target found out i → take i out ≡ take i target
+  fill-front {target} {found} {out} {i} f = rw (f .so-far) (take-at (take i target) (drop i found) i (length-take-le i target (omega arith)))
 
   -- the next n entries of the target put in as one part
   part-put : (i n : ℕ) (target found : List A) → i ≤ length target

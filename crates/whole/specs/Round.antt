@@ -1,12 +1,12 @@
 -- Rounding a quotient to a whole number. A half goes up: round(x) is the greatest whole number not above x + 1/2.
-use mathlib.Core.Path.{_≡_, refl, sym, ap, _∙_}
-use Prim.Native.Nat.{ℕ, zero, suc, _+_, _*_, _≤_, _<_}
+use mathlib.Core.Path.{_≡_}
+use Prim.Native.Nat.{ℕ, _+_, _*_, _≤_, _<_}
 use native.Mathlib.Nat.{le-of-mul-le-mul-left}
 use native.Mathlib.Omega.{arith}
-use lib.IntN.{ℤ, pos, negsuc, negℤ, _+ℤ_, _-ℤ_, _*ℤ_, -ℤ-+ℤ-cancel, natAbs}
-use lib.Signed.{_≤ℤ_, _<ℤ_, shrZ}
+use lib.IntN.{ℤ, pos, _+ℤ_, _-ℤ_, _*ℤ_, -ℤ-+ℤ-cancel, natAbs}
+use lib.Signed.{_≤ℤ_, shrZ}
 use Rattle.whole.specs.Laws.{*ℤ-distr}
-use Rattle.whole.specs.Split.{up, dn, zarith, add-is, sub-is, mul-is, size-is, apart}
+use Rattle.whole.specs.Split.{zarith, add-is, sub-is, mul-is, size-is, apart}
 use Rattle.whole.specs.Size.{size-add, size-mul}
 use Rattle.whole.specs.Floor.{Floor, floor-is, floor-most, floor-unique}
 

@@ -1,12 +1,11 @@
 -- Sizes: |x| is the library's `natAbs x`, a natural. What is known of the size of a sum, a difference, a product, and of a
 -- number that lies between two bounds.
-use mathlib.Core.Path.{_≡_, refl, sym, ap, _∙_}
-use Prim.Native.Nat.{ℕ, zero, suc, _+_, _*_, _≤_, _<_}
+use mathlib.Core.Path.{_≡_, refl}
+use Prim.Native.Nat.{ℕ, suc, _+_, _*_, _≤_}
 use native.Mathlib.Omega.{arith}
-use native.Mathlib.Nat.{mul-zero}
 use lib.IntN.{ℤ, pos, negsuc, negℤ, _+ℤ_, _-ℤ_, _*ℤ_, natAbs}
-use lib.Signed.{_≤ℤ_, _<ℤ_}
-use Rattle.whole.specs.Split.{up, dn, zarith, add-is, sub-is, up-neg, dn-neg, size-is, apart}
+use lib.Signed.{_≤ℤ_}
+use Rattle.whole.specs.Split.{zarith, add-is, up-neg, dn-neg, size-is, apart}
 
 pub size-add : (x y : ℤ) → natAbs (x +ℤ y) ≤ natAbs x + natAbs y
 size-add x y = omega (zarith, add-is x y, size-is x, size-is y, size-is (x +ℤ y), apart (x +ℤ y))

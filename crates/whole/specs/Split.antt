@@ -1,12 +1,12 @@
 -- A whole number read as a difference of two naturals, z = up z − dn z, so that `omega`, which knows the naturals alone,
 -- decides linear facts on ℤ: `omega (zarith, add-is x y, ..)`, with one law listed for each compound term in sight.
-use mathlib.Core.Path.{_≡_, refl, sym, ap, _∙_, subst}
+use mathlib.Core.Path.{_≡_, refl, ap, subst}
 use mathlib.Core.Bool.{Bool, true, false, cond}
 use Prim.Native.Nat.{ℕ, zero, suc, _+_, _*_, _-_, _≤_, _<_, min}
 use native.Mathlib.Omega.{arith}
 use lib.IntN.{ℤ, pos, negsuc, negℤ, _+ℤ_, _-ℤ_, _*ℤ_, natAbs, subℕ}
 use lib.Signed.{_≤ℤ_, _<ℤ_}
-use lib.Dec.{T, leb, ltb, leb→le, le→leb, ltb→lt, lt→ltb}
+use lib.Dec.{leb, ltb, leb→le, le→leb, ltb→lt, lt→ltb}
 use borrow.Author.Tests.{ltb-true, ltb-false}
 
 -- what is above 0, and what is below it: one of the two is 0
