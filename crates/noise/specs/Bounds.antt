@@ -1,5 +1,5 @@
 -- The bound of a gate grows with the bounds of its inputs, so that tighter bounds give no larger a result.
-use Prim.Native.Nat.{ℕ, _+_, _*_, _/_, _≤_}
+use Prim.Native.Nat.{ℕ, _+_, _*_, _≤_}
 use native.Mathlib.Nat.{mul-le-mul-left, mul-le-mul}
 use native.Mathlib.Omega.{arith}
 use Rattle.whole.specs.Floor.{div-mono}

@@ -12,7 +12,7 @@ use Rattle.whole.specs.Ring.{by-ring, quote, from-eq}
 use Rattle.whole.specs.Size.{size-add, size-mul}
 use Rattle.whole.specs.Round.{round}
 use Rattle.whole.specs.Centred.{centred, centred-half}
-use Rattle.whole.specs.Lists.{grid, map-grid, length-grid, Each, each-map, each-always}
+use Rattle.whole.specs.Lists.{grid, map-grid, Each, each-map, each-always}
 use Rattle.whole.specs.Inner.{inner, sizes, inner-scale, inner-grid, sizes-grid}
 use Rattle.scheme.specs.Arithmetic.{half, tensorEntry, tensor}
 use Rattle.noise.specs.Noise.{Written}

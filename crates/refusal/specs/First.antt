@@ -1,7 +1,7 @@
 -- Document 01, *Refusal numbers*: a call gives the lowest number that applies, 0 exactly when none applies; a refusal returns
 -- 0 in every other number and writes no buffer. The refusals of a call are a list of rows, a number with its test, in rising
 -- order (the circuit file alone has an order of its own), and the number of the first row that applies is given.
-use mathlib.Core.Path.{_≡_, refl, sym, ap}
+use mathlib.Core.Path.{_≡_, refl, ap}
 use mathlib.Core.Logic.{_⊎_, inl, inr, ⊎-elim, _≢_}
 use mathlib.Core.Bool.{Bool, true, false, cond, _&&_, _||_}
 use mathlib.Core.List.{List, [], _∷_, _++_}
@@ -10,7 +10,7 @@ use native.Mathlib.Nat.{le-of-eq, le-of-lt, not-suc-le-zero, le-of-suc-le-suc, z
 use native.Mathlib.Omega.{arith}
 use lib.Dec.{ltb}
 use Rattle.whole.specs.Tests.{and-left, and-right, clash}
-use Rattle.whole.specs.Lists.{all, Each, nil, cons}
+use Rattle.whole.specs.Lists.{Each, nil, cons}
 use lib.ListN.{length, getD}
 use borrow.Author.Tests.{ltb-true}
 

@@ -7,7 +7,7 @@ use Prim.Native.Nat.{ℕ, _+_, _*_, _/_, _%_, _-_}
 use lib.Dec.{leb, ltb}
 use lib.IntN.{ℤ, pos, negℤ, _+ℤ_, _-ℤ_, _*ℤ_, natAbs}
 use lib.Signed.{leZ, ltZ}
-use lib.ListN.{getD, take, drop}
+use lib.ListN.{getD, drop}
 use Rattle.whole.specs.Tests.{eqZ}
 use Rattle.whole.specs.Round.{round}
 use Rattle.whole.specs.Centred.{centred}

@@ -1,9 +1,9 @@
 -- Document 01, *Refusal numbers*, for the calls on keys and ciphertexts: for each call its rows in the table's order, the
 -- answer, and what each buffer that it writes holds at exit. Of a buffer that a call only writes, a result or scratch, the rows
 -- and the answer take the length alone: it may arrive with anything in it.
-use mathlib.Core.Bool.{Bool, not, _&&_, _||_}
+use mathlib.Core.Bool.{Bool, not, _||_}
 use mathlib.Core.List.{List, [], _∷_}
-use Prim.Native.Nat.{ℕ, _+_, _*_, _-_}
+use Prim.Native.Nat.{ℕ, _*_, _-_}
 use lib.Dec.{leb, eqb}
 use lib.IntN.{ℤ, pos, natAbs}
 use lib.ListN.{length, replicate}

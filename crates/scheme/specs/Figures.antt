@@ -4,11 +4,10 @@ use mathlib.Core.List.{List, [], _∷_, map, zipWith, flatMap}
 use Prim.Native.Nat.{ℕ}
 use lib.IntN.{ℤ, pos, negℤ}
 use lib.ListN.{replicate}
-use Rattle.whole.specs.Tests.{eqZ}
 use Rattle.whole.specs.Round.{round}
 use Rattle.whole.specs.Centred.{centred, rest}
 use Rattle.whole.specs.Lists.{all, tabulate, grid, cut}
-use Rattle.whole.specs.Inner.{inner, sizes, column}
+use Rattle.whole.specs.Inner.{inner, column}
 use Rattle.refusal.specs.First.{firstOf}
 use Rattle.refusal.specs.Parameters.{sheet, sheets, sheetTable, inRange}
 use Rattle.scheme.specs.Arithmetic.{isResidue, encrypt, decrypt, noise, XOR, NOT, tensorEntry, tensor, keyRows, maskColumn, rowZeroEntry, switchingKey, switchEntry, switch, AND-bound, fits}

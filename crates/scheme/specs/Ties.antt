@@ -2,7 +2,6 @@
 -- floor without one of them failing. They hold by the same computed test.
 use mathlib.Core.Path.{_≡_, refl}
 use mathlib.Core.List.{List, [], _∷_, map, flatMap}
-use Prim.Native.Nat.{ℕ}
 use lib.IntN.{ℤ, pos}
 use Rattle.whole.specs.Round.{round}
 use Rattle.whole.specs.Centred.{centred, rest}

@@ -8,7 +8,7 @@ use lib.ListN.{length}
 use Rattle.refusal.specs.declared.Params.{Params}
 use Rattle.refusal.specs.declared.Refusal.{Refusal}
 use Rattle.refusal.specs.declared.Made.{Made}
-use Rattle.refusal.specs.Parameters.{params, made, madeSheet}
+use Rattle.refusal.specs.Parameters.{made, madeSheet}
 use Rattle.scheme.specs.declared.Bounded.{Bounded}
 use Rattle.scheme.specs.declared.Decrypted.{Decrypted}
 use Rattle.scheme.specs.Calls.{keyCheckAnswer, makeKeyAnswer, makeKeyResult, benchCheckAnswer, benchKey, encryptAnswer, encryptResult, decryptAnswer, xorAnswer, xorResult, notAnswer, notResult, andAnswer, andResult, andScratch}

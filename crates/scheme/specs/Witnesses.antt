@@ -1,11 +1,9 @@
 -- Wrong engines whose code could not keep the shape of ours, each shut out by an input on which the promise differs from it. On sheet 0 (q 16)
 -- with s = (1,1) unless another sheet is named; document 01 names these engines in *What the promises must pin*.
 use mathlib.Core.Path.{_≡_, refl}
-use mathlib.Core.Bool.{true, false}
-use mathlib.Core.List.{List, [], _∷_, map, zipWith, flatMap}
-use Prim.Native.Nat.{ℕ}
-use lib.IntN.{ℤ, pos, natAbs}
-use lib.ListN.{length, replicate}
+use mathlib.Core.List.{List, [], _∷_, zipWith, flatMap}
+use lib.IntN.{ℤ, pos}
+use lib.ListN.{replicate}
 use Rattle.whole.specs.Tests.{eqZ}
 use Rattle.whole.specs.Round.{round}
 use Rattle.whole.specs.Centred.{centred, rest}

@@ -1,9 +1,9 @@
 -- Where a definition is not at once the sentence of document 01, a fact that shows that it is: the range of a residue, the
 -- places u·n+v of the tensor and i·n²+j of the switching key, and that what XOR, NOT and AND make is n residues again.
 use mathlib.Core.Path.{_≡_, refl, sym, ap, _∙_}
-use mathlib.Core.Bool.{Bool, true}
+use mathlib.Core.Bool.{true}
 use mathlib.Core.List.{List, [], _∷_, map, zipWith}
-use Prim.Native.Nat.{ℕ, _+_, _*_, _/_, _%_, _-_, _≤_, _<_}
+use Prim.Native.Nat.{ℕ, _+_, _*_, _/_, _-_, _≤_, _<_}
 use native.Mathlib.Nat.{mul-assoc}
 use native.Mathlib.Omega.{arith}
 use lib.IntN.{ℤ, pos, negℤ, _+ℤ_, _-ℤ_, _*ℤ_, natAbs}
