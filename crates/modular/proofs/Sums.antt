@@ -1,6 +1,6 @@
--- Sums of products in signed words of 64 bits: what one turn of a loop leaves to be shown that adds one product to a sum (`Turn`), and of one that adds
--- a chunk of 16 products to a sum in two words (`Chunk`). Both lean on whole's bounds on the size of an inner product. Assumes nothing.
-use mathlib.Core.Path.{_≡_, sym, _∙_}
+-- Sums of products in signed words of 64 bits: the invariant of a loop that adds one product after the other (`Summed`), what one of its turns leaves to be
+-- shown (`Turn`), and what one turn leaves that adds a chunk of 16 products to a sum in two words (`Chunk`). Both lean on whole's bounds on the size of an inner product. Assumes nothing.
+use mathlib.Core.Path.{_≡_, refl, sym, _∙_}
 use mathlib.Core.List.{List, [], _∷_}
 use Prim.Native.Nat.{ℕ, _+_, _*_, _-_, _≤_, _<_}
 use native.Mathlib.Numerals.{add-one}
@@ -16,25 +16,37 @@ use Rattle.whole.specs.Ring.{by-ring, quote}
 use Rattle.whole.specs.Rem.{quot-rem, rem-size, quot-times-size}
 use Rattle.whole.specs.Lists.{each-part}
 use Rattle.whole.specs.Machine.{word, fits64}
-use Rattle.whole.specs.Inner.{inner, inner-suc, inner-part, inner-most, inner-turn, sizes}
+use Rattle.whole.specs.Inner.{inner, inner-all, inner-suc, inner-part, inner-most, inner-turn, sizes}
 use Rattle.modular.specs.Loans.{UpTo}
 
--- to the sum of the first i products the next one, x·y, is added: the product fits a word, the new sum does, and it is the sum of the first i+1
+-- the invariant of a loop that sums products: the first i are summed
+pub record Summed (s c : List ℤ) (sum : ℤ) (i : ℕ) : Type 0 where
+  pub within : i ≤ length s
+  pub so-far : sum ≡ inner (take i s) (take i c)
+
+pub sum-start : (s c : List ℤ) → Summed s c (pos 0) 0
+unfolding inner
+sum-start s c = record { within = omega arith; so-far = refl }
+
+pub sum-end : {s c : List ℤ} {sum : ℤ} {i : ℕ} → Summed s c sum i → length s ≤ i → length c ≤ i → sum ≡ inner s c
+sum-end {s} {c} {sum} {i} f h k = f .so-far ∙ inner-all s c i h k
+
+-- the next product, x·y, is added: it fits a word, the new sum does, and that is the sum of the first i+1
 pub record Turn (s c : List ℤ) (i : ℕ) (sum x y : ℤ) : Type 0 where
   pub product : SFits w64 (x *ℤ y)
   pub total : SFits w64 (sum +ℤ word w64 (x *ℤ y))
-  pub next : word w64 (sum +ℤ word w64 (x *ℤ y)) ≡ inner (take (i + 1) s) (take (i + 1) c)
+  pub next : Summed s c (word w64 (sum +ℤ word w64 (x *ℤ y))) (i + 1)
 
-pub turn : {m : ℕ} (s : List ℤ) {c : List ℤ} (i : ℕ) {sum x y : ℤ} → sizes s * m < 9223372036854775808 → UpTo m c → i < length c
-    → sum ≡ inner (take i s) (take i c) → x ≡ getD s i (pos 0) → y ≡ getD c i (pos 0) → Turn s c i sum x y
-turn {m} s {c} i {sum} {x} {y} small e h sum-is x-is y-is =
-    let bound : natAbs sum + natAbs (x *ℤ y) ≤ sizes s * m = simp (sum-is, x-is, y-is) (inner-turn s e i h) in
+pub turn : {m : ℕ} {s c : List ℤ} {i : ℕ} {sum x y : ℤ} → Summed s c sum i → sizes s * m < 9223372036854775808 → UpTo m c → i < length s → i < length c
+    → x ≡ getD s i (pos 0) → y ≡ getD c i (pos 0) → Turn s c i sum x y
+turn {m} {s} {c} {i} {sum} {x} {y} f small e h k x-is y-is =
+    let bound : natAbs sum + natAbs (x *ℤ y) ≤ sizes s * m = simp (f .so-far, x-is, y-is) (inner-turn s e i k) in
     let p : SFits w64 (x *ℤ y) = fits64 (x *ℤ y) (omega arith) in
     let t : SFits w64 (sum +ℤ x *ℤ y) = fits64 (sum +ℤ x *ℤ y) (omega (arith, size-add sum (x *ℤ y))) in
     record {
       product = p;
       total = simp (toZ-ofZ, p) t;
-      next = simp (toZ-ofZ, p, t) (simp (sum-is, x-is, y-is, add-one, inner-suc));
+      next = record { within = omega arith; so-far = simp (toZ-ofZ, p, t) (simp (f .so-far, x-is, y-is, add-one, inner-suc)) };
     }
 
 -- ---- a sum that can pass a word, in two words

@@ -1,44 +1,29 @@
 -- `inner_product` returns <s,c>. The loop's invariant: the sum so far is the inner product of the first i entries of both. That no product and no sum wraps
 -- follows from it: the sizes of s sum to at most 4,096, and no entry of c is above 2^39 (`turn` of Sums). The measure is what is left of the length. Assumes nothing.
-use mathlib.Core.Path.{_≡_, refl, _∙_}
-use Prim.Native.Nat.{_≤_, _-_}
+use Prim.Native.Nat.{_-_}
 use native.Mathlib.Omega.{arith}
-use lib.ListN.{length, getD, take}
+use lib.ListN.{length, getD}
 use lib.IntN.{pos}
 use mir.Syntax.{w32, w64}
 use mir.Val.{toZ}
 use mir.Facts.{toZ-ofZ}
 use borrow.Author.Needs.{needs, sfits-of}
-use Rattle.whole.specs.Inner.{inner, inner-all}
 use Rattle.whole.specs.Machine.{word, sfits-word, widened}
-use Rattle.modular.proofs.Sums.{Turn, turn}
+use Rattle.modular.proofs.Sums.{Summed, Turn, sum-start, sum-end, turn}
 use Rattle.modular.proofs.key.inner_product.Statement.{statement}
 use Rattle.modular.proofs.key.inner_product.Tie as tie
 
 abbrev Inv-loop : tie.InvT-loop
-Inv-loop s c sum₀ i₀ sum i = (i ≤ length s) × (toZ w64 sum ≡ inner (take i s) (take i c))
+Inv-loop s c sum₀ i₀ sum i = Summed s c (toZ w64 sum) i
 
 abbrev μ-loop : tie.MeasureT-loop
 μ-loop s c sum₀ i₀ sum i = length s - i
 
 loop-holds : tie.Need-loop-holds Inv-loop μ-loop
-unfolding inner
-loop-holds c = (omega arith, refl)
-
-mul-sum : tie.Need-mul-sum Inv-loop μ-loop
-mul-sum c = search needs
-
-shared-slice-copy-out-sum : tie.Need-shared-slice-copy-out-sum Inv-loop μ-loop
-shared-slice-copy-out-sum c = search needs
+loop-holds c = sum-start _ _
 
 cast-sum : tie.Need-cast-sum Inv-loop μ-loop
 cast-sum c = search (needs, sfits-word)
-
-mul-sum-2 : tie.Need-mul-sum-2 Inv-loop μ-loop
-mul-sum-2 c = search needs
-
-shared-slice-copy-out-sum-2 : tie.Need-shared-slice-copy-out-sum-2 Inv-loop μ-loop
-shared-slice-copy-out-sum-2 c = search needs
 
 -- one product more
 step : (c : tie.After-sum2 Inv-loop μ-loop)
@@ -49,8 +34,8 @@ step : (c : tie.After-sum2 Inv-loop μ-loop)
 step c =
     let start = c .before .before .before .before in
     let loop = c .before .before .before .loop in
-    turn (start .args .s .now) (loop .i) (omega (arith, start .pre .1)) (start .pre .2) (omega arith)
-    (loop .inv .1) (widened (sfits-of (c .before .sum .given))) (toZ-ofZ (sfits-of (c .sum2 .given)))
+    turn (loop .inv) (omega (arith, start .pre .1)) (start .pre .2) (omega arith) (omega arith)
+    (widened (sfits-of (c .before .sum .given))) (toZ-ofZ (sfits-of (c .sum2 .given)))
 
 mul-sum-3 : tie.Need-mul-sum-3 Inv-loop μ-loop
 mul-sum-3 c = step c .product
@@ -58,19 +43,11 @@ mul-sum-3 c = step c .product
 add-sum : tie.Need-add-sum Inv-loop μ-loop
 add-sum c = step c .total
 
-add-i : tie.Need-add-i Inv-loop μ-loop
-add-i c = search needs
-
-loop-less : tie.Need-loop-less Inv-loop μ-loop
-loop-less c = search needs
-
 loop-again : tie.Need-loop-again Inv-loop μ-loop
-loop-again c = (omega arith, step c .next)
+loop-again c = step c .next
 
 returns : tie.Need-returns Inv-loop μ-loop
-returns c =
-    let args = c .before .before .args in
-    c .before .loop .inv .1 ∙ inner-all (args .s .now) (args .c .now) (c .before .loop .i) (omega arith) (omega arith)
+returns c = sum-end (c .before .loop .inv) (omega arith) (omega arith)
 
 pub inner-product-spec : {M : Type 1} → statement M
 inner-product-spec =
@@ -79,14 +56,14 @@ inner-product-spec =
     Inv-loop
     μ-loop
     loop-holds
-    mul-sum
-    shared-slice-copy-out-sum
+    (λ c. search needs)
+    (λ c. search needs)
     cast-sum
-    mul-sum-2
-    shared-slice-copy-out-sum-2
+    (λ c. search needs)
+    (λ c. search needs)
     mul-sum-3
     add-sum
-    add-i
-    loop-less
+    (λ c. search needs)
+    (λ c. search needs)
     loop-again
     returns)
