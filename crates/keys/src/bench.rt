@@ -8,11 +8,12 @@ ghost use Rattle.refusal.specs.First.{firstOf};
 ghost use Rattle.scheme.specs.Arithmetic.{rowZeroEntry};
 ghost use Rattle.scheme.specs.Calls.{benchRows, benchCheckAnswer, benchKey};
 ghost use Rattle.modular.specs.Loans.{UpTo};
-use crate::switching::row_zero_entry;
+use crate::switching::fill_row_zero;
 use crate::tests::is_bad_key;
 use crate::tests::is_exceeding;
 use crate::tests::is_outside_big;
 use crate::tests::length_differs;
+use modular::buffer::copy;
 use refusal::Refusal;
 
 // The number for a bench key: 3, 4, 6, 7 or 0. The parameters are those of sheet 1.
@@ -46,11 +47,7 @@ fn bench_row_zero(s: &[i32], masks: &[i64], errors: &[i64]) -> [i64; 16]
     ensures { λ r. ⌜ r ≡ tabulate 16 (rowZeroEntry 4 65536 (now (s .entry)) (now (masks .entry)) (now (errors .entry))) ⌝ }
 {
     let mut row = [0i64; 16];
-    let mut j = 0;
-    while j < 16 {
-        row[j] = row_zero_entry(65536, s, masks, errors[j], j).value();
-        j += 1;
-    }
+    fill_row_zero(65536, s, masks, errors, &mut row);
     row
 }
 
@@ -60,11 +57,8 @@ fn bench_mask_row(masks: &[i64], from: usize) -> [i64; 16]
     ensures { λ r. ⌜ r ≡ take 16 (drop from (now (masks .entry))) ⌝ }
 {
     let mut row = [0i64; 16];
-    let mut j = 0;
-    while j < 16 {
-        row[j] = masks[from + j];
-        j += 1;
-    }
+    let end = from + 16;
+    copy(&masks[from..end], &mut row);
     row
 }
 

@@ -22,7 +22,7 @@ use refusal::Params;
 use refusal::Refusal;
 
 // Row 0, column j of a switching key: [q·su·sv - <s',mask column j> + fj]Q for j = u·n+v.
-pub fn row_zero_entry(q: u32, s: &[i32], masks: &[i64], error: i64, j: usize) -> BigResidue
+fn row_zero_entry(q: u32, s: &[i32], masks: &[i64], error: i64, j: usize) -> BigResidue
     requires { ⌜ Modulus q × (2 ≤ length (now s)) × (length (now s) ≤ 1024) × (sizes (now s) ≤ 4096) × (length (now masks) ≡ (length (now s) - 1) * (length (now s) * length (now s))) × UpTo 549755813888 (now masks) × (natAbs error ≤ 65535) × (j < length (now s) * length (now s)) ⌝ }
     ensures { λ r. ⌜ r .0 ≡ centred (q * q) (pos q *ℤ getD (now (s .entry)) (j / length (now (s .entry))) (pos 0) *ℤ getD (now (s .entry)) (j % length (now (s .entry))) (pos 0) -ℤ inner (drop 1 (now (s .entry))) (maskColumn (length (now (s .entry))) (now (masks .entry)) j) +ℤ error) ⌝ }
 {
@@ -32,7 +32,7 @@ pub fn row_zero_entry(q: u32, s: &[i32], masks: &[i64], error: i64, j: usize) ->
 }
 
 // Row 0 of a switching key.
-fn fill_row_zero(q: u32, s: &[i32], masks: &[i64], errors: &[i64], out: &mut [i64])
+pub fn fill_row_zero(q: u32, s: &[i32], masks: &[i64], errors: &[i64], out: &mut [i64])
     requires { ⌜ Modulus q × (2 ≤ length (now s)) × (length (now s) ≤ 1024) × (sizes (now s) ≤ 4096) × (length (now masks) ≡ (length (now s) - 1) * (length (now s) * length (now s))) × UpTo 549755813888 (now masks) × UpTo 65535 (now errors) × (length (now errors) ≡ length (now s) * length (now s)) × (length (now out) ≡ length (now s) * length (now s)) ⌝ }
     ensures { λ r. ⌜ now (out .exit) ≡ tabulate (length (now (s .entry)) * length (now (s .entry))) (rowZeroEntry (length (now (s .entry))) q (now (s .entry)) (now (masks .entry)) (now (errors .entry))) ⌝ }
 {

@@ -10,15 +10,6 @@ use Rattle.scheme.specs.Passed.{length-is}
 use Rattle.keys.proofs.bench.bench_number.Statement.{statement}
 use Rattle.keys.proofs.bench.bench_number.Tie as tie
 
-length-differs-requires : tie.Need-length-differs-requires
-length-differs-requires c κs = search needs
-
-length-differs-requires-2 : tie.Need-length-differs-requires-2
-length-differs-requires-2 c κs = search needs
-
-length-differs-requires-3 : tie.Need-length-differs-requires-3
-length-differs-requires-3 c κs = search needs
-
 returns : tie.Need-returns
 unfolding firstOf benchRows
 returns c =
@@ -29,25 +20,10 @@ returns c =
       c .if1 .taken,
     )
 
-is-exceeding-requires : tie.Need-is-exceeding-requires
-is-exceeding-requires c κs = search needs
-
-row-requires : tie.Need-row-requires
-row-requires c κs = search needs
-
-is-outside-big-requires : tie.Need-is-outside-big-requires
-is-outside-big-requires c κs = search needs
-
-row-requires-2 : tie.Need-row-requires-2
-row-requires-2 c κs = search needs
-
 is-bad-key-requires : tie.Need-is-bad-key-requires
 is-bad-key-requires c κs =
     let e = c .before .before .before .before in
     omega (arith, length-is _ 4 (sym (e .before .before .before .length-differs .ensures) ∙ or-left _ _ (or-left _ _ (e .if1 .left))))
-
-row-requires-3 : tie.Need-row-requires-3
-row-requires-3 c κs = search needs
 
 returns-2 : tie.Need-returns-2
 unfolding firstOf benchRows sheet sheets sheetTable
@@ -70,14 +46,14 @@ pub bench-number-spec : {M : Type 1} → statement M
 bench-number-spec =
     tie.close
     (tie.spec
-    length-differs-requires
-    length-differs-requires-2
-    length-differs-requires-3
+    (λ c κs. search needs)
+    (λ c κs. search needs)
+    (λ c κs. search needs)
     returns
-    is-exceeding-requires
-    row-requires
-    is-outside-big-requires
-    row-requires-2
+    (λ c κs. search needs)
+    (λ c κs. search needs)
+    (λ c κs. search needs)
+    (λ c κs. search needs)
     is-bad-key-requires
-    row-requires-3
+    (λ c κs. search needs)
     returns-2)

@@ -4,12 +4,9 @@ use Rattle.scheme.specs.Calls.{benchCheckAnswer}
 use Rattle.keys.proofs.bench.check_bench_key.Statement.{statement}
 use Rattle.keys.proofs.bench.check_bench_key.Tie as tie
 
-bench-number-requires : tie.Need-bench-number-requires
-bench-number-requires c κs = search needs
-
 returns : tie.Need-returns
 unfolding benchCheckAnswer
 returns c = rw (c .bench-number .ensures)
 
 pub check-bench-key-spec : {M : Type 1} → statement M
-check-bench-key-spec = tie.close (tie.spec bench-number-requires returns)
+check-bench-key-spec = tie.close (tie.spec (λ c κs. search needs) returns)

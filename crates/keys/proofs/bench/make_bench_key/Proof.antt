@@ -10,9 +10,6 @@ use Rattle.keys.proofs.ReadySwitching.{BenchReady, bench-ready, switchi
 use Rattle.keys.proofs.bench.make_bench_key.Statement.{statement}
 use Rattle.keys.proofs.bench.make_bench_key.Tie as tie
 
-bench-number-requires : tie.Need-bench-number-requires
-bench-number-requires c κs = search needs
-
 returns : tie.Need-returns
 unfolding benchKey
 returns c = sym (doneOr-refused _ _ (λ z. c .if1 .taken (c .before .bench-number .ensures ∙ z)))
@@ -50,7 +47,7 @@ pub make-bench-key-spec : {M : Type 1} → statement M
 make-bench-key-spec =
     tie.close
     (tie.spec
-    bench-number-requires
+    (λ c κs. search needs)
     returns
     bench-row-zero-requires
     bench-mask-row-requires

@@ -4,12 +4,9 @@ use Rattle.scheme.specs.Calls.{keyCheckAnswer}
 use Rattle.keys.proofs.key.check_key.Statement.{statement}
 use Rattle.keys.proofs.key.check_key.Tie as tie
 
-key-number-requires : tie.Need-key-number-requires
-key-number-requires c κs = search needs
-
 returns : tie.Need-returns
 unfolding keyCheckAnswer
 returns c = rw (c .key-number .ensures)
 
 pub check-key-spec : {M : Type 1} → statement M
-check-key-spec = tie.close (tie.spec key-number-requires returns)
+check-key-spec = tie.close (tie.spec (λ c κs. search needs) returns)

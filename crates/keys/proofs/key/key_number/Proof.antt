@@ -9,18 +9,9 @@ use Rattle.keys.specs.Chain.{short, params-tested}
 use Rattle.keys.proofs.key.key_number.Statement.{statement}
 use Rattle.keys.proofs.key.key_number.Tie as tie
 
-in-range-requires : tie.Need-in-range-requires
-in-range-requires c κs = search needs
-
 returns : tie.Need-returns
 unfolding firstOf keyCheckRows
 returns c = rw (params-tested _ (c .before .in-range .ensures) (c .if1 .taken))
-
-cast-length-differs : tie.Need-cast-length-differs
-cast-length-differs c = search needs
-
-length-differs-requires : tie.Need-length-differs-requires
-length-differs-requires c κs = search needs
 
 good : (c : tie.Else1) → badParams (c .before .before .args .p) ≡ false
 good c = params-tested _ (c .before .in-range .ensures) (c .if1 .left)
@@ -33,9 +24,6 @@ is-bad-key-requires : tie.Need-is-bad-key-requires
 is-bad-key-requires c κs =
     short (params-in-range _ (good (c .before .before .before))) (sym (c .before .length-differs .ensures) ∙ c .if2 .left)
 
-row-requires : tie.Need-row-requires
-row-requires c κs = search needs
-
 returns-3 : tie.Need-returns-3
 unfolding firstOf keyCheckRows
 returns-3 c =
@@ -46,11 +34,11 @@ pub key-number-spec : {M : Type 1} → statement M
 key-number-spec =
     tie.close
     (tie.spec
-    in-range-requires
+    (λ c κs. search needs)
     returns
-    cast-length-differs
-    length-differs-requires
+    (λ c. search needs)
+    (λ c κs. search needs)
     returns-2
     is-bad-key-requires
-    row-requires
+    (λ c κs. search needs)
     returns-3)

@@ -24,13 +24,6 @@ abbrev μ-loop : tie.MeasureT-loop
 loop-holds : tie.Need-loop-holds Inv-loop μ-loop
 loop-holds c = fill-start _ _ (length-tabulate _ _ ∙ sym (c .pre .8))
 
-mul-row-zero-entry : tie.Need-mul-row-zero-entry Inv-loop μ-loop
-mul-row-zero-entry c = omega arith
-
-shared-slice-copy-out-row-zero-entry :
-    tie.Need-shared-slice-copy-out-row-zero-entry Inv-loop μ-loop
-shared-slice-copy-out-row-zero-entry c = omega arith
-
 -- the error of the turn, as it is read
 error-is : (c : tie.After-row-zero-entry-arg Inv-loop μ-loop)
     → let e = getD (c .before .before .before .args .errors .now) (c .before .before .loop .j) (pos 0) in word w64 e ≡ e
@@ -41,21 +34,6 @@ row-zero-entry-requires c κs =
     let p = c .before .before .before .pre in
     let inside : c .before .before .loop .j < length (c .before .before .before .args .errors .now) = omega arith in
     (p .0, p .1, p .2, p .3, p .4, p .5, rw (error-is c) (each-getD (p .6) _ (pos 0) inside), omega arith)
-
-value-requires : tie.Need-value-requires Inv-loop μ-loop
-value-requires c κs = tt
-
-mul-t13 : tie.Need-mul-t13 Inv-loop μ-loop
-mul-t13 c = omega arith
-
-slice-set-from-out : tie.Need-slice-set-from-out Inv-loop μ-loop
-slice-set-from-out c = omega arith
-
-add-j : tie.Need-add-j Inv-loop μ-loop
-add-j c = omega arith
-
-loop-less : tie.Need-loop-less Inv-loop μ-loop
-loop-less c = omega arith
 
 loop-again : tie.Need-loop-again Inv-loop μ-loop
 loop-again c =
@@ -80,14 +58,14 @@ fill-row-zero-spec =
     Inv-loop
     μ-loop
     loop-holds
-    mul-row-zero-entry
-    shared-slice-copy-out-row-zero-entry
+    (λ c. omega arith)
+    (λ c. omega arith)
     row-zero-entry-requires
-    value-requires
-    mul-t13
-    slice-set-from-out
-    add-j
-    loop-less
+    (λ c κs. tt)
+    (λ c. omega arith)
+    (λ c. omega arith)
+    (λ c. omega arith)
+    (λ c. omega arith)
     loop-again
     same-length
     returns)

@@ -14,9 +14,6 @@ use Rattle.keys.specs.Chain.{params-modulus, short, params-tested}
 use Rattle.keys.proofs.switching.make_key_number.Statement.{statement}
 use Rattle.keys.proofs.switching.make_key_number.Tie as tie
 
-in-range-requires : tie.Need-in-range-requires
-in-range-requires c κs = search needs
-
 returns : tie.Need-returns
 unfolding firstOf makeKeyRows
 returns c = rw (params-tested _ (c .before .in-range .ensures) (c .if1 .taken))
@@ -30,14 +27,8 @@ ranges c = params-in-range _ (good c)
 square-small : (c : tie.Else1) → let n = c .before .before .args .p .n in n * n ≤ 1048576
 square-small c = mul-le-mul (ranges c .n-high) (ranges c .n-high)
 
-cast-n : tie.Need-cast-n
-cast-n c = search needs
-
 mul-square : tie.Need-mul-square
 mul-square c = omega (arith, square-small (c .before))
-
-length-differs-requires : tie.Need-length-differs-requires
-length-differs-requires c κs = search needs
 
 sub-length-differs : tie.Need-sub-length-differs
 sub-length-differs c = omega (arith, ranges (c .before .before) .n-low)
@@ -48,17 +39,8 @@ mul-length-differs c =
     let h : e .before .before .args .p .n - 1 ≤ 1024 = omega (arith, ranges e .n-high) in
     omega (arith, mul-le-mul h (square-small e))
 
-length-differs-requires-2 : tie.Need-length-differs-requires-2
-length-differs-requires-2 c κs = search needs
-
-length-differs-requires-3 : tie.Need-length-differs-requires-3
-length-differs-requires-3 c κs = search needs
-
 mul-length-differs-2 : tie.Need-mul-length-differs-2
 mul-length-differs-2 c = let e = c .before .before .before .before in omega (arith, mul-le-mul (ranges e .n-high) (square-small e))
-
-length-differs-requires-4 : tie.Need-length-differs-requires-4
-length-differs-requires-4 c κs = search needs
 
 returns-2 : tie.Need-returns-2
 unfolding firstOf makeKeyRows
@@ -72,26 +54,14 @@ returns-2 c =
       c .if2 .taken,
     )
 
-is-exceeding-requires : tie.Need-is-exceeding-requires
-is-exceeding-requires c κs = search needs
-
-row-requires : tie.Need-row-requires
-row-requires c κs = search needs
-
 is-outside-big-requires : tie.Need-is-outside-big-requires
 is-outside-big-requires c κs = params-modulus (ranges (c .before .before .before .before .before .before .before .before))
-
-row-requires-2 : tie.Need-row-requires-2
-row-requires-2 c κs = search needs
 
 is-bad-key-requires : tie.Need-is-bad-key-requires
 is-bad-key-requires c κs =
     let e = c .before .before .before .before in
     short (ranges (e .before .before .before .before .before .before))
     (sym (e .before .before .before .before .length-differs .ensures) ∙ or-left _ _ (or-left _ _ (or-left _ _ (e .if2 .left))))
-
-row-requires-3 : tie.Need-row-requires-3
-row-requires-3 c κs = search needs
 
 returns-3 : tie.Need-returns-3
 unfolding firstOf makeKeyRows
@@ -116,22 +86,22 @@ pub make-key-number-spec : {M : Type 1} → statement M
 make-key-number-spec =
     tie.close
     (tie.spec
-    in-range-requires
+    (λ c κs. search needs)
     returns
-    cast-n
+    (λ c. search needs)
     mul-square
-    length-differs-requires
+    (λ c κs. search needs)
     sub-length-differs
     mul-length-differs
-    length-differs-requires-2
-    length-differs-requires-3
+    (λ c κs. search needs)
+    (λ c κs. search needs)
     mul-length-differs-2
-    length-differs-requires-4
+    (λ c κs. search needs)
     returns-2
-    is-exceeding-requires
-    row-requires
+    (λ c κs. search needs)
+    (λ c κs. search needs)
     is-outside-big-requires
-    row-requires-2
+    (λ c κs. search needs)
     is-bad-key-requires
-    row-requires-3
+    (λ c κs. search needs)
     returns-3)

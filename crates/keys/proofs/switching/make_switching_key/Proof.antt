@@ -17,9 +17,6 @@ use Rattle.keys.proofs.ReadySwitching.{MakeKeyReady, make-key-ready, tw
 use Rattle.keys.proofs.switching.make_switching_key.Statement.{statement}
 use Rattle.keys.proofs.switching.make_switching_key.Tie as tie
 
-make-key-number-requires : tie.Need-make-key-number-requires
-make-key-number-requires c κs = search needs
-
 returns : tie.Need-returns
 unfolding makeKeyAnswer makeKeyResult
 returns c = (rw (c .before .make-key-number .ensures), sym (doneOr-refused _ _ (λ z. c .if1 .taken (c .before .make-key-number .ensures ∙ z))))
@@ -33,12 +30,6 @@ done c = sym (c .before .make-key-number .ensures) ∙ c .if1 .left
 ready : (c : tie.Else1)
     → let args = c .before .before .args in MakeKeyReady (args .p) (args .s .now) (args .masks .now) (args .errors .now) (length (args .out .now))
 ready c = make-key-ready _ _ _ _ _ (done c)
-
-sub-fill-row-zero : tie.Need-sub-fill-row-zero
-sub-fill-row-zero c = search needs
-
-part-fill-row-zero-start : tie.Need-part-fill-row-zero-start
-part-fill-row-zero-start c = search needs
 
 part-fill-row-zero-end : tie.Need-part-fill-row-zero-end
 part-fill-row-zero-end c = omega (arith, ready c .result-long)
@@ -67,17 +58,11 @@ key-is : (c : tie.After-fill-row-zero)
 unfolding switchingKey
 key-is c = rw (c .fill-row-zero .ensures, ready (c .before .before) .count)
 
-mul-copy : tie.Need-mul-copy
-mul-copy c = search needs
-
 sub-copy : tie.Need-sub-copy
 sub-copy c = omega (arith, row-long (c .before), length-append (row-zero (c .before)) (rest (c .before)))
 
 part-copy-start : tie.Need-part-copy-start
 part-copy-start c = omega (arith, row-long (c .before), length-append (row-zero (c .before)) (rest (c .before)))
-
-part-copy-end : tie.Need-part-copy-end
-part-copy-end c = search needs
 
 copy-requires : tie.Need-copy-requires
 copy-requires c κs =
@@ -86,9 +71,6 @@ copy-requires c κs =
     let k = length (args .errors .now) in
     sym (mid-len k (length (row-zero d ++ rest d)) (row-zero d ++ rest d) (omega arith)
     ∙ omega (arith, length-append (row-zero d) (rest d), row-long d, length-drop (k - 0) (args .out .now), ready (d .before .before) .result-long))
-
-same-length : tie.Need-same-length
-same-length c = search needs
 
 returns-2 : tie.Need-returns-2
 unfolding makeKeyAnswer makeKeyResult
@@ -104,16 +86,16 @@ pub make-switching-key-spec : {M : Type 1} → statement M
 make-switching-key-spec =
     tie.close
     (tie.spec
-    make-key-number-requires
+    (λ c κs. search needs)
     returns
-    sub-fill-row-zero
-    part-fill-row-zero-start
+    (λ c. search needs)
+    (λ c. search needs)
     part-fill-row-zero-end
     fill-row-zero-requires
-    mul-copy
+    (λ c. search needs)
     sub-copy
     part-copy-start
-    part-copy-end
+    (λ c. search needs)
     copy-requires
-    same-length
+    (λ c. search needs)
     returns-2)

@@ -84,12 +84,6 @@ first-is c = ap₂ _*ℤ_ (toZ-pos w64 {n = c .before .args .q} (omega (arith, c
 product-is : (c : tie.After-product2) → let s = c .before .before in machine-product s ≡ pos (s .args .q) *ℤ su s *ℤ sv s
 product-is c = ap₂ _*ℤ_ (word-is (first-is (c .before)) (first-fits (c .before .before))) (widened (sv-fits c))
 
-cast-product : tie.Need-cast-product
-cast-product c = search needs
-
-div-product : tie.Need-div-product
-div-product c = search needs
-
 mul-product : tie.Need-mul-product
 mul-product c = omega (arith, row-of c)
 
@@ -101,9 +95,6 @@ cast-product-2 c = sfits-word (su-fits c)
 
 mul-product-2 : tie.Need-mul-product-2
 mul-product-2 c = rw (first-is c) (first-fits (c .before))
-
-rem-product : tie.Need-rem-product
-rem-product c = search needs
 
 mul-product-3 : tie.Need-mul-product-3
 mul-product-3 c = omega (arith, place-of (c .before))
@@ -118,15 +109,6 @@ mul-product-4 : tie.Need-mul-product-4
 mul-product-4 c = rw (product-is c) (product-fits (c .before .before))
 
 -- ---- less the inner product, and the error
-
-sub-inner-column : tie.Need-sub-inner-column
-sub-inner-column c = search needs
-
-part-inner-column-start : tie.Need-part-inner-column-start
-part-inner-column-start c = search needs
-
-part-inner-column-end : tie.Need-part-inner-column-end
-part-inner-column-end c = search needs
 
 mul-inner-column : tie.Need-mul-inner-column
 mul-inner-column c = omega (arith, mul-le-mul (c .before .before .before .pre .2) (c .before .before .before .pre .2))
@@ -184,9 +166,6 @@ sub-of c = rw (less-is c) (less-fits c)
 add-of : tie.Need-add-of
 add-of c = rw (total-is c) (total-fits c)
 
-of-requires : tie.Need-of-requires
-of-requires c κs = search needs
-
 returns : tie.Need-returns
 returns c = c .of .ensures ∙ ap (centred _) (word-is (total-is (c .before)) (total-fits (c .before)))
 
@@ -194,23 +173,23 @@ pub row-zero-entry-spec : {M : Type 1} → statement M
 row-zero-entry-spec =
     tie.close
     (tie.spec
-    cast-product
-    div-product
+    (λ c. search needs)
+    (λ c. search needs)
     mul-product
     shared-slice-copy-out-product
     cast-product-2
     mul-product-2
-    rem-product
+    (λ c. search needs)
     mul-product-3
     shared-slice-copy-out-product-2
     cast-product-3
     mul-product-4
-    sub-inner-column
-    part-inner-column-start
-    part-inner-column-end
+    (λ c. search needs)
+    (λ c. search needs)
+    (λ c. search needs)
     mul-inner-column
     inner-column-requires
     sub-of
     add-of
-    of-requires
+    (λ c κs. search needs)
     returns)

@@ -31,16 +31,10 @@ one-bits (negsuc n) f = ne-eqb (4294967296 - suc n) 1 (λ e. omega (arith, f .sf
 returns : tie.Need-returns
 returns c = empty-bad _ _ (c .if1 .taken)
 
-shared-slice-copy-out-result : tie.Need-shared-slice-copy-out-result
-shared-slice-copy-out-result c = search needs
-
-sum-of-sizes-requires : tie.Need-sum-of-sizes-requires
-sum-of-sizes-requires c κs = search needs
-
 returns-2 : tie.Need-returns-2
 unfolding badKey isKey
 returns-2 c = simp (one-bits (getD (c .before .before .before .args .s .now) 0 (pos 0)) (sfits-of (c .before .result .given)), c .sum-of-sizes .ensures)
 
 pub is-bad-key-spec : {M : Type 1} → statement M
 is-bad-key-spec =
-    tie.close (tie.spec returns shared-slice-copy-out-result sum-of-sizes-requires returns-2)
+    tie.close (tie.spec returns (λ c. search needs) (λ c κs. search needs) returns-2)

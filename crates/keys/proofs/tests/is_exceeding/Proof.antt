@@ -6,12 +6,9 @@ use Rattle.scheme.specs.Calls.{exceeds}
 use Rattle.keys.proofs.tests.is_exceeding.Statement.{statement}
 use Rattle.keys.proofs.tests.is_exceeding.Tie as tie
 
-all-within-requires : tie.Need-all-within-requires
-all-within-requires c κs = search needs
-
 returns : tie.Need-returns
 unfolding exceeds
 returns c = ap not (c .all-within .ensures)
 
 pub is-exceeding-spec : {M : Type 1} → statement M
-is-exceeding-spec = tie.close (tie.spec all-within-requires returns)
+is-exceeding-spec = tie.close (tie.spec (λ c κs. search needs) returns)

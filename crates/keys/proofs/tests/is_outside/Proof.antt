@@ -6,12 +6,9 @@ use Rattle.scheme.specs.Calls.{outside}
 use Rattle.keys.proofs.tests.is_outside.Statement.{statement}
 use Rattle.keys.proofs.tests.is_outside.Tie as tie
 
-all-residues-requires : tie.Need-all-residues-requires
-all-residues-requires c κs = search needs
-
 returns : tie.Need-returns
 unfolding outside
 returns c = ap not (c .all-residues .ensures)
 
 pub is-outside-spec : {M : Type 1} → statement M
-is-outside-spec = tie.close (tie.spec all-residues-requires returns)
+is-outside-spec = tie.close (tie.spec (λ c κs. search needs) returns)

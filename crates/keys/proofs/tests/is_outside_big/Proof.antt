@@ -6,12 +6,9 @@ use Rattle.scheme.specs.Calls.{outside}
 use Rattle.keys.proofs.tests.is_outside_big.Statement.{statement}
 use Rattle.keys.proofs.tests.is_outside_big.Tie as tie
 
-all-big-residues-requires : tie.Need-all-big-residues-requires
-all-big-residues-requires c κs = search needs
-
 returns : tie.Need-returns
 unfolding outside
 returns c = ap not (c .all-big-residues .ensures)
 
 pub is-outside-big-spec : {M : Type 1} → statement M
-is-outside-big-spec = tie.close (tie.spec all-big-residues-requires returns)
+is-outside-big-spec = tie.close (tie.spec (λ c κs. search needs) returns)

@@ -6,12 +6,9 @@ use Rattle.scheme.specs.Calls.{overBudget}
 use Rattle.keys.proofs.tests.is_over.Statement.{statement}
 use Rattle.keys.proofs.tests.is_over.Tie as tie
 
-mul-result : tie.Need-mul-result
-mul-result c = search needs
-
 returns : tie.Need-returns
 unfolding overBudget fits
 returns c = refl
 
 pub is-over-spec : {M : Type 1} → statement M
-is-over-spec = tie.close (tie.spec mul-result returns)
+is-over-spec = tie.close (tie.spec (λ c. search needs) returns)
