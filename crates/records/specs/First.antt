@@ -56,6 +56,12 @@ unfolding records kindsOf leftsOf rightsOf
 records-fields [] = refl
 records-fields (g ∷ gates) = ap (λ (r : List Gate). g ∷ r) (records-fields gates)
 
+-- the fields of the first n gates at the front of three lists
+pub record Listed (gates : List Gate) (n : ℕ) (kinds lefts rights : List ℕ) : Type 0 where
+  pub kinds-are : take n kinds ≡ kindsOf (take n gates)
+  pub lefts-are : take n lefts ≡ leftsOf (take n gates)
+  pub rights-are : take n rights ≡ rightsOf (take n gates)
+
 -- ---- how many
 
 pub length-noGates : length noGates ≡ 4097

@@ -30,12 +30,7 @@ fn evaluate_first(
     let mut kinds = [0u32; 4097];
     let mut lefts = [0u32; 4097];
     let mut rights = [0u32; 4097];
-    list(
-        first,
-        &mut kinds[0..count],
-        &mut lefts[0..count],
-        &mut rights[0..count],
-    );
+    list(first, count, &mut kinds, &mut lefts, &mut rights);
     evaluate(
         p,
         inputs,
