@@ -2,24 +2,19 @@
 -- and what success tells of the loans.
 use mathlib.Core.Path.{_≡_, refl, sym, ap, _∙_}
 use mathlib.Core.Logic.{_≢_}
-use mathlib.Core.Bool.{true, false, not}
 use mathlib.Core.List.{List}
-use Prim.Native.Nat.{ℕ, _+_, _*_, _≤_, _<_}
+use Prim.Native.Nat.{ℕ, _+_, _*_, _<_}
 use native.Mathlib.Omega.{arith}
-use lib.Dec.{leb}
 use lib.IntN.{ℤ}
 use lib.ListN.{length, take, drop}
-use borrow.Author.Tests.{leb-true, ne-eqb, not-false}
-use Rattle.whole.specs.Tests.{and-right, or-left, or-right, or-neither}
-use Rattle.whole.specs.Lists.{nil, cons, all}
+use Rattle.whole.specs.Tests.{or-left, or-right, or-neither}
+use Rattle.whole.specs.Lists.{nil, cons}
 use Rattle.refusal.specs.declared.Params.{Params}
-use Rattle.refusal.specs.First.{Row, firstOf, rising-row, rising-none, someTrue, Clear, first-clear, first-each, first-front, first-rest}
-use Rattle.refusal.specs.Parameters.{InRange, within, refused}
-use Rattle.scheme.specs.Arithmetic.{isResidue}
+use Rattle.refusal.specs.First.{Row, firstOf, rising-row, rising-none, Clear, first-clear, first-each, first-front, first-rest}
+use Rattle.refusal.specs.Parameters.{refused}
 use Rattle.scheme.specs.Calls.{differs}
 use Rattle.scheme.specs.Passed.{params-in-range, length-is, entries-inside}
-use Rattle.circuit.specs.declared.Gate.{Gate}
-use Rattle.circuit.specs.Circuits.{badCounts, wrongGates, gateRows, placeOf}
+use Rattle.circuit.specs.Circuits.{gateRows}
 use Rattle.evaluation.specs.Ready.{EvaluateReady}
 use Rattle.circuit.specs.Answers.{place-early}
 use Rattle.circuit.specs.Core.{records, uneven, planCoreRows, planCoreAnswer, planCoreBounds, evaluateCoreRows, evaluateCoreAnswer, evaluateCoreBounds}

@@ -20,15 +20,6 @@ number s =
     let a = s .args in
     firstOf (evaluateCoreRows (a .p) (a .inputs) (a .kinds .now) (a .lefts .now) (a .rights .now) (a .wires .now) (a .bounds .now) (a .key .now) (length (a .scratch .now)))
 
-evaluate-number-requires : tie.Need-evaluate-number-requires
-evaluate-number-requires c κs = search needs
-
-same-length : tie.Need-same-length
-same-length c = search needs
-
-same-length-2 : tie.Need-same-length-2
-same-length-2 c = search needs
-
 returns : tie.Need-returns
 unfolding evaluateCoreWires evaluateCoreBounds evaluateCoreScratch
 returns c =
@@ -36,15 +27,6 @@ returns c =
     let e = c .before .evaluate-number .ensures in
     let refuses : number s ≢ 0 = λ z. c .if1 .taken (sym (early-number _ _ _ _ _ _ _ _ _ e (c .if1 .taken)) ∙ z) in
     (early-answer _ _ _ _ _ _ _ _ _ e (c .if1 .taken), (sym (doneOr-refused _ _ refuses), (sym (doneOr-refused _ _ refuses), sym (doneOr-refused _ _ refuses))))
-
-plan-requires : tie.Need-plan-requires
-plan-requires c κs = search needs
-
-same-length-3 : tie.Need-same-length-3
-same-length-3 c = search needs
-
-same-length-4 : tie.Need-same-length-4
-same-length-4 c = search needs
 
 -- ---- the first stage is passed, and planning has answered
 
@@ -85,18 +67,6 @@ ready c = evaluate-ready _ _ _ _ _ _ _ _ _ (done c)
 work-requires : tie.Need-work-requires
 work-requires c κs = ready (c .before .before)
 
-zero-requires : tie.Need-zero-requires
-zero-requires c κs = search needs
-
-same-length-5 : tie.Need-same-length-5
-same-length-5 c = search needs
-
-same-length-6 : tie.Need-same-length-6
-same-length-6 c = search needs
-
-same-length-7 : tie.Need-same-length-7
-same-length-7 c = search needs
-
 returns-3 : tie.Need-returns-3
 unfolding evaluateCoreWires evaluateCoreScratch
 returns-3 c =
@@ -118,17 +88,17 @@ pub evaluate-spec : {M : Type 1} → statement M
 evaluate-spec =
     tie.close
     (tie.spec
-    evaluate-number-requires
-    same-length
-    same-length-2
+    (λ c κs. search needs)
+    (λ c. search needs)
+    (λ c. search needs)
     returns
-    plan-requires
-    same-length-3
-    same-length-4
+    (λ c κs. search needs)
+    (λ c. search needs)
+    (λ c. search needs)
     returns-2
     work-requires
-    zero-requires
-    same-length-5
-    same-length-6
-    same-length-7
+    (λ c κs. search needs)
+    (λ c. search needs)
+    (λ c. search needs)
+    (λ c. search needs)
     returns-3)

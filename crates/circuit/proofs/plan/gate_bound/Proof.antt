@@ -9,15 +9,9 @@ use borrow.Author.Needs.{needs}
 use Rattle.circuit.proofs.plan.gate_bound.Statement.{statement}
 use Rattle.circuit.proofs.plan.gate_bound.Tie as tie
 
-add-result : tie.Need-add-result
-add-result c = search needs
-
 returns : tie.Need-returns
 unfolding byKind
 returns c = (simp (c .if1 .taken, XOR-bound-is), omega (arith, c .before .pre .0 .q-high))
-
-and-bound-requires : tie.Need-and-bound-requires
-and-bound-requires c κs = search needs
 
 returns-2 : tie.Need-returns-2
 unfolding byKind
@@ -29,4 +23,4 @@ returns-3 c =
     (sym (NOT-bound-is (a .args .b1)) ∙ sym (kind-neither (a .args .kind) _ _ _ (c .before .if1 .left) (c .if2 .left)), omega (arith, a .pre .0 .q-high))
 
 pub gate-bound-spec : {M : Type 1} → statement M
-gate-bound-spec = tie.close (tie.spec add-result returns and-bound-requires returns-2 returns-3)
+gate-bound-spec = tie.close (tie.spec (λ c. search needs) returns (λ c κs. search needs) returns-2 returns-3)

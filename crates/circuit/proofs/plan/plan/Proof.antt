@@ -15,12 +15,6 @@ use borrow.Author.Needs.{needs}
 use Rattle.circuit.proofs.plan.plan.Statement.{statement}
 use Rattle.circuit.proofs.plan.plan.Tie as tie
 
-plan-number-requires : tie.Need-plan-number-requires
-plan-number-requires c κs = search needs
-
-same-length : tie.Need-same-length
-same-length c = search needs
-
 returns : tie.Need-returns
 returns c = planned-early _ _ _ _ _ _ (c .before .plan-number .ensures) (c .if1 .taken)
 
@@ -37,34 +31,16 @@ ready c = plan-ready _ _ _ _ _ _ (sym (c .before .plan-number .ensures) ∙ c .i
 first-wrong-requires : tie.Need-first-wrong-requires
 first-wrong-requires c κs = let r = ready c in (r .inputs-high, r .gates-high, r .lefts-long, r .rights-long)
 
-same-length-2 : tie.Need-same-length-2
-same-length-2 c = search needs
-
 returns-2 : tie.Need-returns-2
 returns-2 c = planned-wrong _ _ _ _ _ _ (ready (c .before .before)) (c .before .first-wrong .ensures) (c .if2 .taken)
 
-sub-copy-bounds : tie.Need-sub-copy-bounds
-sub-copy-bounds c = search needs
-
-part-table-start : tie.Need-part-table-start
-part-table-start c = search needs
-
 part-table-end : tie.Need-part-table-end
 part-table-end c = let r = ready (c .before .before .before) in omega (arith, r .inputs-high, r .gates-high, r .room)
-
-copy-bounds-requires : tie.Need-copy-bounds-requires
-copy-bounds-requires c κs = search needs
 
 -- the part of the table that was copied to is as found
 lent : (c : tie.After-copy-bounds) (rest : List ℕ)
     → (let found = start (c .before .before .before) .args .bounds .now in take (length found - 0) (c .copy-bounds .last .1 .0 ++ rest) ≡ found)
 lent c rest = rw (c .copy-bounds .ensures) (put-first _ _ rest refl)
-
-sub-settle : tie.Need-sub-settle
-sub-settle c = search needs
-
-part-table-start-2 : tie.Need-part-table-start-2
-part-table-start-2 c = search needs
 
 part-table-end-2 : tie.Need-part-table-end-2
 part-table-end-2 c = put-holds _ (c .before .copy-bounds .last .1 .0) _ (ap length (c .before .copy-bounds .ensures))
@@ -96,28 +72,13 @@ filled c = rw lent at (c .before .before .settle .ensures .1 (c .if3 .left))
 long : (c : tie.Else3) → (let s = c .before .before in length (settled s) ≡ length (start (past s) .args .bounds .now))
 long c = bounds-kept _ _ _ _ _ _ (ready (past (c .before .before) .before .before))
 
-same-length-3 : tie.Need-same-length-3
-same-length-3 c = search needs
-
 returns-3 : tie.Need-returns-3
 returns-3 c =
     let s = c .before .before in
     planned-over _ _ _ _ _ _ (ready (past s .before .before)) (right (past s)) (over s) (c .if3 .taken)
 
-sub-copy-bounds-2 : tie.Need-sub-copy-bounds-2
-sub-copy-bounds-2 c = search needs
-
-part-copy-bounds-start : tie.Need-part-copy-bounds-start
-part-copy-bounds-start c = search needs
-
 part-copy-bounds-end : tie.Need-part-copy-bounds-end
 part-copy-bounds-end c = put-holds _ (c .before .before .before .settle .last .1 .1 .1 .1 .1 .0) _ (ap length (filled (c .before)) ∙ long (c .before))
-
-copy-bounds-requires-2 : tie.Need-copy-bounds-requires-2
-copy-bounds-requires-2 c κs = search needs
-
-same-length-4 : tie.Need-same-length-4
-same-length-4 c = search needs
 
 returns-4 : tie.Need-returns-4
 returns-4 c =
@@ -131,25 +92,25 @@ pub plan-spec : {M : Type 1} → statement M
 plan-spec =
     tie.close
     (tie.spec
-    plan-number-requires
-    same-length
+    (λ c κs. search needs)
+    (λ c. search needs)
     returns
     first-wrong-requires
-    same-length-2
+    (λ c. search needs)
     returns-2
-    sub-copy-bounds
-    part-table-start
+    (λ c. search needs)
+    (λ c. search needs)
     part-table-end
-    copy-bounds-requires
-    sub-settle
-    part-table-start-2
+    (λ c κs. search needs)
+    (λ c. search needs)
+    (λ c. search needs)
     part-table-end-2
     settle-requires
-    same-length-3
+    (λ c. search needs)
     returns-3
-    sub-copy-bounds-2
-    part-copy-bounds-start
+    (λ c. search needs)
+    (λ c. search needs)
     part-copy-bounds-end
-    copy-bounds-requires-2
-    same-length-4
+    (λ c κs. search needs)
+    (λ c. search needs)
     returns-4)

@@ -15,24 +15,15 @@ use Rattle.circuit.specs.Core.{uneven, planCoreRows}
 use Rattle.circuit.proofs.plan.plan_number.Statement.{statement}
 use Rattle.circuit.proofs.plan.plan_number.Tie as tie
 
-in-range-requires : tie.Need-in-range-requires
-in-range-requires c κs = search needs
-
 returns : tie.Need-returns
 unfolding planCoreRows
 returns c = simp (first-row, params-is, sym (c .before .in-range .ensures), c .if1 .taken)
-
-are-bad-counts-requires : tie.Need-are-bad-counts-requires
-are-bad-counts-requires c κs = search needs
 
 returns-2 : tie.Need-returns-2
 unfolding planCoreRows
 returns-2 c =
     let e = c .before .before in
     simp (first-row, params-is, sym (e .before .in-range .ensures), e .if1 .left, sym (c .before .are-bad-counts .ensures), c .if2 .taken)
-
-add-if3 : tie.Need-add-if3
-add-if3 c = search needs
 
 returns-3 : tie.Need-returns-3
 unfolding planCoreRows uneven
@@ -50,12 +41,6 @@ returns-3 c =
       c .if3 .taken,
     )
 
-sub-is-some-over : tie.Need-sub-is-some-over
-sub-is-some-over c = search needs
-
-part-is-some-over-start : tie.Need-part-is-some-over-start
-part-is-some-over-start c = search needs
-
 abbrev start : tie.Else3 → tie.Start
 start c = c .before .before .before .before .before .before .before .before .before
 
@@ -69,12 +54,6 @@ long c =
 
 part-is-some-over-end : tie.Need-part-is-some-over-end
 part-is-some-over-end c = omega (arith, long c)
-
-is-some-over-requires : tie.Need-is-some-over-requires
-is-some-over-requires c κs = search needs
-
-row-requires : tie.Need-row-requires
-row-requires c κs = search needs
 
 returns-4 : tie.Need-returns-4
 unfolding planCoreRows uneven
@@ -101,15 +80,15 @@ pub plan-number-spec : {M : Type 1} → statement M
 plan-number-spec =
     tie.close
     (tie.spec
-    in-range-requires
+    (λ c κs. search needs)
     returns
-    are-bad-counts-requires
+    (λ c κs. search needs)
     returns-2
-    add-if3
+    (λ c. search needs)
     returns-3
-    sub-is-some-over
-    part-is-some-over-start
+    (λ c. search needs)
+    (λ c. search needs)
     part-is-some-over-end
-    is-some-over-requires
-    row-requires
+    (λ c κs. search needs)
+    (λ c κs. search needs)
     returns-4)

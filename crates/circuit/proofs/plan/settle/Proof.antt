@@ -54,12 +54,6 @@ inside c = let s = start c in omega (arith, c .before .loop .inv .wire, c .befor
 fits : (c : tie.In-loop Inv-loop μ-loop) (i : ℕ) → i < c .before .loop .own → 4 * getD (c .before .loop .table) i 0 < start c .args .p .q
 fits c i h = settled-fits _ _ _ _ (room (start c)) (c .before .loop .inv) i h
 
-mul-b1 : tie.Need-mul-b1 Inv-loop μ-loop
-mul-b1 c = omega arith
-
-shared-slice-read-b1 : tie.Need-shared-slice-read-b1 Inv-loop μ-loop
-shared-slice-read-b1 c = omega arith
-
 cast-b1 : tie.Need-cast-b1 Inv-loop μ-loop
 cast-b1 c = omega (arith, c .shared-slice-known4 .given (c .before .before .loop .g))
 
@@ -69,12 +63,6 @@ mul-b1-2 c = omega (arith, below (c .before) .left-below, inside (c .before))
 slice-read-b1 : tie.Need-slice-read-b1 Inv-loop μ-loop
 slice-read-b1 c = omega (arith, below (c .before .before) .left-below, inside (c .before .before))
 
-mul-b2 : tie.Need-mul-b2 Inv-loop μ-loop
-mul-b2 c = omega arith
-
-shared-slice-read-b2 : tie.Need-shared-slice-read-b2 Inv-loop μ-loop
-shared-slice-read-b2 c = omega arith
-
 cast-b2 : tie.Need-cast-b2 Inv-loop μ-loop
 cast-b2 c = omega (arith, c .shared-slice-known5 .given (c .before .before .before .before .loop .g))
 
@@ -83,12 +71,6 @@ mul-b2-2 c = omega (arith, below (c .before .before .before) .right-below, insid
 
 slice-read-b2 : tie.Need-slice-read-b2 Inv-loop μ-loop
 slice-read-b2 c = omega (arith, below (c .before .before .before .before) .right-below, inside (c .before .before .before .before))
-
-mul-gate-bound : tie.Need-mul-gate-bound Inv-loop μ-loop
-mul-gate-bound c = omega arith
-
-shared-slice-read-gate-bound : tie.Need-shared-slice-read-gate-bound Inv-loop μ-loop
-shared-slice-read-gate-bound c = omega arith
 
 gate-bound-requires : tie.Need-gate-bound-requires Inv-loop μ-loop
 gate-bound-requires c κs =
@@ -130,20 +112,8 @@ returns c =
 cast-table : tie.Need-cast-table Inv-loop μ-loop
 cast-table c = omega (arith, c .if1 .left, start (into (c .before .before)) .pre .0 .q-high)
 
-mul-table : tie.Need-mul-table Inv-loop μ-loop
-mul-table c = omega arith
-
 slice-write-table : tie.Need-slice-write-table Inv-loop μ-loop
 slice-write-table c = inside (into (c .before .before))
-
-add-own : tie.Need-add-own Inv-loop μ-loop
-add-own c = omega arith
-
-add-g : tie.Need-add-g Inv-loop μ-loop
-add-g c = omega arith
-
-loop-less : tie.Need-loop-less Inv-loop μ-loop
-loop-less c = omega arith
 
 loop-again : tie.Need-loop-again Inv-loop μ-loop
 loop-again c =
@@ -167,29 +137,29 @@ settle-spec =
     Inv-loop
     μ-loop
     loop-holds
-    mul-b1
-    shared-slice-read-b1
+    (λ c. omega arith)
+    (λ c. omega arith)
     cast-b1
     mul-b1-2
     slice-read-b1
-    mul-b2
-    shared-slice-read-b2
+    (λ c. omega arith)
+    (λ c. omega arith)
     cast-b2
     mul-b2-2
     slice-read-b2
-    mul-gate-bound
-    shared-slice-read-gate-bound
+    (λ c. omega arith)
+    (λ c. omega arith)
     gate-bound-requires
     cast-if1
     mul-if1
     same-length
     returns
     cast-table
-    mul-table
+    (λ c. omega arith)
     slice-write-table
-    add-own
-    add-g
-    loop-less
+    (λ c. omega arith)
+    (λ c. omega arith)
+    (λ c. omega arith)
     loop-again
     same-length-2
     returns-2)

@@ -20,9 +20,6 @@ use Rattle.circuit.specs.Answers.{inputs-within, gates-within}
 use Rattle.evaluation.proofs.number.evaluate_number.Statement.{statement}
 use Rattle.evaluation.proofs.number.evaluate_number.Tie as tie
 
-in-range-requires : tie.Need-in-range-requires
-in-range-requires c κs = search needs
-
 returns : tie.Need-returns
 unfolding evaluateCoreRows
 returns c = simp (first-row, params-tested _ (c .before .in-range .ensures) (c .if1 .taken))
@@ -34,9 +31,6 @@ range c = answered-range _ (c .before .in-range .ensures) (c .if1 .left)
 
 one-passed : (c : tie.Else1) → badParams (c .before .before .before .before .before .before .args .p) ≡ false
 one-passed c = params-tested _ (c .before .in-range .ensures) (c .if1 .left)
-
-are-bad-counts-requires : tie.Need-are-bad-counts-requires
-are-bad-counts-requires c κs = search needs
 
 returns-2 : tie.Need-returns-2
 unfolding evaluateCoreRows
@@ -60,40 +54,16 @@ total-fits c =
 square-fits : (c : tie.Else2) → (let s = start c .args in s .p .n * s .p .n ≤ 1048576)
 square-fits c = let r = range (c .before .before) in mul-le-mul (r .n-high) (r .n-high)
 
-cast-n : tie.Need-cast-n
-cast-n c = search needs
-
 mul-square : tie.Need-mul-square
 mul-square c = omega (arith, square-fits (c .before))
 
-add-total : tie.Need-add-total
-add-total c = search needs
-
-length-differs-requires : tie.Need-length-differs-requires
-length-differs-requires c κs = search needs
-
-length-differs-requires-2 : tie.Need-length-differs-requires-2
-length-differs-requires-2 c κs = search needs
-
 mul-length-differs : tie.Need-mul-length-differs
 mul-length-differs c = omega (arith, total-fits (c .before .before .before))
-
-length-differs-requires-3 : tie.Need-length-differs-requires-3
-length-differs-requires-3 c κs = search needs
-
-length-differs-requires-4 : tie.Need-length-differs-requires-4
-length-differs-requires-4 c κs = search needs
 
 mul-length-differs-2 : tie.Need-mul-length-differs-2
 mul-length-differs-2 c =
     let e = c .before .before .before .before .before in
     omega (arith, mul-le-mul (range (e .before .before) .n-high) (square-fits e))
-
-length-differs-requires-5 : tie.Need-length-differs-requires-5
-length-differs-requires-5 c κs = search needs
-
-length-differs-requires-6 : tie.Need-length-differs-requires-6
-length-differs-requires-6 c κs = search needs
 
 returns-3 : tie.Need-returns-3
 unfolding evaluateCoreRows uneven
@@ -128,12 +98,6 @@ inputs-inside c =
 mul-is-outside : tie.Need-mul-is-outside
 mul-is-outside c = omega (arith, inputs-inside c)
 
-sub-is-outside : tie.Need-sub-is-outside
-sub-is-outside c = search needs
-
-part-is-outside-start : tie.Need-part-is-outside-start
-part-is-outside-start c = search needs
-
 part-is-outside-end : tie.Need-part-is-outside-end
 part-is-outside-end c = omega (arith, inputs-inside c)
 
@@ -142,9 +106,6 @@ is-outside-requires c κs = params-modulus (range (counted (c .before) .before .
 
 is-outside-big-requires : tie.Need-is-outside-big-requires
 is-outside-big-requires c κs = params-modulus (range (counted (c .before .before) .before .before))
-
-row-requires : tie.Need-row-requires
-row-requires c κs = search needs
 
 sixth : (c : tie.After-is-outside) → (let s = start (counted (c .before .before)) .args in c .is-outside .result ≡ outside (s .p .q) (take (s .inputs * s .p .n) (s .wires .now)))
 sixth c = let s = start (counted (c .before .before)) .args in c .is-outside .ensures ∙ ap (λ (k : ℕ). outside (s .p .q) (take k (s .wires .now))) (sub-zero (s .inputs * s .p .n))
@@ -185,27 +146,27 @@ pub evaluate-number-spec : {M : Type 1} → statement M
 evaluate-number-spec =
     tie.close
     (tie.spec
-    in-range-requires
+    (λ c κs. search needs)
     returns
-    are-bad-counts-requires
+    (λ c κs. search needs)
     returns-2
-    cast-n
+    (λ c. search needs)
     mul-square
-    add-total
-    length-differs-requires
-    length-differs-requires-2
+    (λ c. search needs)
+    (λ c κs. search needs)
+    (λ c κs. search needs)
     mul-length-differs
-    length-differs-requires-3
-    length-differs-requires-4
+    (λ c κs. search needs)
+    (λ c κs. search needs)
     mul-length-differs-2
-    length-differs-requires-5
-    length-differs-requires-6
+    (λ c κs. search needs)
+    (λ c κs. search needs)
     returns-3
     mul-is-outside
-    sub-is-outside
-    part-is-outside-start
+    (λ c. search needs)
+    (λ c. search needs)
     part-is-outside-end
     is-outside-requires
     is-outside-big-requires
-    row-requires
+    (λ c κs. search needs)
     returns-4)

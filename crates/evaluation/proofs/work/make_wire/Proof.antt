@@ -6,34 +6,13 @@ use Rattle.circuit.specs.Records.{kind-neither}
 use Rattle.evaluation.proofs.work.make_wire.Statement.{statement}
 use Rattle.evaluation.proofs.work.make_wire.Tie as tie
 
-xor-into-requires : tie.Need-xor-into-requires
-xor-into-requires c κs = search needs
-
-same-length : tie.Need-same-length
-same-length c = search needs
-
 returns : tie.Need-returns
 unfolding byKind
 returns c = simp (c .before .before .before .if1 .taken) (c .before .xor-into .ensures)
 
-and-into-requires : tie.Need-and-into-requires
-and-into-requires c κs = search needs
-
-same-length-2 : tie.Need-same-length-2
-same-length-2 c = search needs
-
-same-length-3 : tie.Need-same-length-3
-same-length-3 c = search needs
-
 returns-2 : tie.Need-returns-2
 unfolding byKind
 returns-2 c = simp (c .before .before .before .before .before .if2 .taken) (c .before .before .and-into .ensures .0)
-
-not-into-requires : tie.Need-not-into-requires
-not-into-requires c κs = search needs
-
-same-length-4 : tie.Need-same-length-4
-same-length-4 c = search needs
 
 returns-3 : tie.Need-returns-3
 returns-3 c =
@@ -44,13 +23,13 @@ pub make-wire-spec : {M : Type 1} → statement M
 make-wire-spec =
     tie.close
     (tie.spec
-    xor-into-requires
-    same-length
+    (λ c κs. search needs)
+    (λ c. search needs)
     returns
-    and-into-requires
-    same-length-2
-    same-length-3
+    (λ c κs. search needs)
+    (λ c. search needs)
+    (λ c. search needs)
     returns-2
-    not-into-requires
-    same-length-4
+    (λ c κs. search needs)
+    (λ c. search needs)
     returns-3)

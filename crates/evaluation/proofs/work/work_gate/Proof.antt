@@ -19,9 +19,6 @@ use Rattle.evaluation.proofs.Stretch.{Operand, operand, part-long, part
 use Rattle.evaluation.proofs.work.work_gate.Statement.{statement}
 use Rattle.evaluation.proofs.work.work_gate.Tie as tie
 
-cast-n : tie.Need-cast-n
-cast-n c = search needs
-
 -- the operands' wires end at or before the gate's own begins
 below : (s : tie.Start) → Below (s .args .own) (gate (s .args .kind) (s .args .left) (s .args .right))
 below s = gate-below (s .args .own) (gate (s .args .kind) (s .args .left) (s .args .right)) (s .pre .2)
@@ -38,26 +35,14 @@ mul-a c = omega (arith, left-ends (c .before))
 mul-b : tie.Need-mul-b
 mul-b c = omega (arith, right-ends (c .before))
 
-mul-at : tie.Need-mul-at
-mul-at c = search needs
-
 add-copy : tie.Need-add-copy
 add-copy c = let s = c .before in omega (arith, left-ends s, s .pre .1, s .good .1 .1 .1 .1 .1 .0 .0)
 
 mul-copy : tie.Need-mul-copy
 mul-copy c = let s = c .before in omega (arith, left-ends s, s .pre .1, s .good .1 .1 .1 .1 .1 .0 .0)
 
-sub-copy : tie.Need-sub-copy
-sub-copy c = search needs
-
-part-copy-start : tie.Need-part-copy-start
-part-copy-start c = search needs
-
 part-copy-end : tie.Need-part-copy-end
 part-copy-end c = let s = c .before .before in omega (arith, left-ends s, s .pre .1)
-
-copy-requires : tie.Need-copy-requires
-copy-requires c κs = search needs
 
 add-copy-2 : tie.Need-add-copy-2
 add-copy-2 c = let s = c .before .before .before .before .before .before in omega (arith, right-ends s, s .pre .1, s .good .1 .1 .1 .1 .1 .0 .0)
@@ -65,32 +50,8 @@ add-copy-2 c = let s = c .before .before .before .before .before .before in omeg
 mul-copy-2 : tie.Need-mul-copy-2
 mul-copy-2 c = let s = c .before .before .before .before .before .before in omega (arith, right-ends s, s .pre .1, s .good .1 .1 .1 .1 .1 .0 .0)
 
-sub-copy-2 : tie.Need-sub-copy-2
-sub-copy-2 c = search needs
-
-part-copy-start-2 : tie.Need-part-copy-start-2
-part-copy-start-2 c = search needs
-
 part-copy-end-2 : tie.Need-part-copy-end-2
 part-copy-end-2 c = let s = c .before .before .before .before .before .before .before in omega (arith, right-ends s, s .pre .1)
-
-copy-requires-2 : tie.Need-copy-requires-2
-copy-requires-2 c κs = search needs
-
-add-make-wire : tie.Need-add-make-wire
-add-make-wire c = search needs
-
-mul-make-wire : tie.Need-mul-make-wire
-mul-make-wire c = search needs
-
-sub-make-wire : tie.Need-sub-make-wire
-sub-make-wire c = search needs
-
-part-make-wire-start : tie.Need-part-make-wire-start
-part-make-wire-start c = search needs
-
-part-make-wire-end : tie.Need-part-make-wire-end
-part-make-wire-end c = search needs
 
 -- ---- the operands are copied
 
@@ -127,18 +88,6 @@ make-wire-requires c κs =
       s .pre .8,
     )
 
-same-length : tie.Need-same-length
-same-length c = search needs
-
-same-length-2 : tie.Need-same-length-2
-same-length-2 c = search needs
-
-same-length-3 : tie.Need-same-length-3
-same-length-3 c = search needs
-
-same-length-4 : tie.Need-same-length-4
-same-length-4 c = search needs
-
 returns : tie.Need-returns
 returns c =
     let d = c .before .before .before .before .before .before .before .before in
@@ -160,30 +109,30 @@ pub work-gate-spec : {M : Type 1} → statement M
 work-gate-spec =
     tie.close
     (tie.spec
-    cast-n
+    (λ c. search needs)
     mul-a
     mul-b
-    mul-at
+    (λ c. search needs)
     add-copy
     mul-copy
-    sub-copy
-    part-copy-start
+    (λ c. search needs)
+    (λ c. search needs)
     part-copy-end
-    copy-requires
+    (λ c κs. search needs)
     add-copy-2
     mul-copy-2
-    sub-copy-2
-    part-copy-start-2
+    (λ c. search needs)
+    (λ c. search needs)
     part-copy-end-2
-    copy-requires-2
-    add-make-wire
-    mul-make-wire
-    sub-make-wire
-    part-make-wire-start
-    part-make-wire-end
+    (λ c κs. search needs)
+    (λ c. search needs)
+    (λ c. search needs)
+    (λ c. search needs)
+    (λ c. search needs)
+    (λ c. search needs)
     make-wire-requires
-    same-length
-    same-length-2
-    same-length-3
-    same-length-4
+    (λ c. search needs)
+    (λ c. search needs)
+    (λ c. search needs)
+    (λ c. search needs)
     returns)

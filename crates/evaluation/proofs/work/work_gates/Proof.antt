@@ -58,24 +58,6 @@ loop-holds c =
     let s = c .before .before .before in
     (sym (add-zero (s .args .inputs)), refl, refl, refl, work-start (rw (s .pre .0 .wires-long) (mul-le-mul-right (s .args .p .n) (omega arith))) (s .pre .0 .inside))
 
-mul-work-gate : tie.Need-mul-work-gate Inv-loop μ-loop
-mul-work-gate c = omega arith
-
-shared-slice-read-work-gate : tie.Need-shared-slice-read-work-gate Inv-loop μ-loop
-shared-slice-read-work-gate c = omega arith
-
-mul-work-gate-2 : tie.Need-mul-work-gate-2 Inv-loop μ-loop
-mul-work-gate-2 c = omega arith
-
-shared-slice-read-work-gate-2 : tie.Need-shared-slice-read-work-gate-2 Inv-loop μ-loop
-shared-slice-read-work-gate-2 c = omega arith
-
-mul-work-gate-3 : tie.Need-mul-work-gate-3 Inv-loop μ-loop
-mul-work-gate-3 c = omega arith
-
-shared-slice-read-work-gate-3 : tie.Need-shared-slice-read-work-gate-3 Inv-loop μ-loop
-shared-slice-read-work-gate-3 c = omega arith
-
 work-gate-requires : tie.Need-work-gate-requires Inv-loop μ-loop
 work-gate-requires c κs =
     let i = c .before .before .before .before .before .before .before in
@@ -100,12 +82,6 @@ add-own c =
     let one : 1 ≤ s .args .p .n = omega (arith, s .pre .0 .range .n-low) in
     omega (arith, inside i, mul-le-mul (le-refl (i .before .loop .own)) one, s .good .1 .1 .1 .1 .1 .0 .0)
 
-add-g : tie.Need-add-g Inv-loop μ-loop
-add-g c = omega arith
-
-loop-less : tie.Need-loop-less Inv-loop μ-loop
-loop-less c = omega arith
-
 loop-again : tie.Need-loop-again Inv-loop μ-loop
 loop-again c =
     let w = c .before .before .before .before in
@@ -123,15 +99,6 @@ loop-again c =
 same-length : tie.Need-same-length Inv-loop μ-loop
 same-length c = c .before .loop .inv .4 .kept
 
-same-length-2 : tie.Need-same-length-2 Inv-loop μ-loop
-same-length-2 c = search needs
-
-same-length-3 : tie.Need-same-length-3 Inv-loop μ-loop
-same-length-3 c = search needs
-
-same-length-4 : tie.Need-same-length-4 Inv-loop μ-loop
-same-length-4 c = search needs
-
 returns : tie.Need-returns Inv-loop μ-loop
 returns c =
     let l = c .before in
@@ -145,19 +112,19 @@ work-gates-spec =
     Inv-loop
     μ-loop
     loop-holds
-    mul-work-gate
-    shared-slice-read-work-gate
-    mul-work-gate-2
-    shared-slice-read-work-gate-2
-    mul-work-gate-3
-    shared-slice-read-work-gate-3
+    (λ c. omega arith)
+    (λ c. omega arith)
+    (λ c. omega arith)
+    (λ c. omega arith)
+    (λ c. omega arith)
+    (λ c. omega arith)
     work-gate-requires
     add-own
-    add-g
-    loop-less
+    (λ c. omega arith)
+    (λ c. omega arith)
     loop-again
     same-length
-    same-length-2
-    same-length-3
-    same-length-4
+    (λ c. search needs)
+    (λ c. search needs)
+    (λ c. search needs)
     returns)

@@ -30,9 +30,6 @@ m-back c = toZ-pos w64 (omega (arith, c .pre .1))
 fits : (c : tie.Start) → SFits w64 (remZ (c .args .x) (pos (c .args .m)))
 fits c = rem-fits (c .args .x) (c .args .m) (c .fits .x)
 
-cast-rest : tie.Need-cast-rest
-cast-rest c = search needs
-
 rem-rest : tie.Need-rem-rest
 rem-rest c = simp (toZ-ofZ, c .fits .x, m-back c) (c .pre .0, quot-fits (c .args .x) (c .args .m) (c .fits .x))
 
@@ -48,4 +45,4 @@ returns c =
     ∙ centred-rem (c .before .args .m) (c .before .args .x) (c .before .pre .0)
 
 pub centre-spec : {M : Type 1} → statement M
-centre-spec = tie.close (tie.spec cast-rest rem-rest one-turn-requires returns)
+centre-spec = tie.close (tie.spec (λ c. search needs) rem-rest one-turn-requires returns)

@@ -69,9 +69,6 @@ module _ (c : tie.Start) where
   down-fits : SFits w64 (c .args .x -ℤ pos (c .args .m))
   down-fits = fits64 _ (omega (arith, small, c .pre .1, size-sub (c .args .x) (pos (c .args .m))))
 
-cast-modulus : tie.Need-cast-modulus
-cast-modulus c = search needs
-
 add-result : tie.Need-add-result
 add-result c =
     let s : tie.Start = c .before in
@@ -116,7 +113,7 @@ pub one-turn-spec : {M : Type 1} → statement M
 one-turn-spec =
     tie.close
     (tie.spec
-    cast-modulus
+    (λ c. search needs)
     mul-if1
     sub-if1
     add-result

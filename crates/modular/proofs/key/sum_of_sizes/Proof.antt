@@ -26,12 +26,6 @@ loop-holds : tie.Need-loop-holds Inv-loop μ-loop
 unfolding sizes
 loop-holds c = omega arith
 
-mul-size : tie.Need-mul-size Inv-loop μ-loop
-mul-size c = omega arith
-
-shared-slice-copy-out-size : tie.Need-shared-slice-copy-out-size Inv-loop μ-loop
-shared-slice-copy-out-size c = omega arith
-
 -- the entry of the turn, and that it is read back from the bits of either width
 abbrev entry : tie.After-size-arg Inv-loop μ-loop → ℤ
 entry c = getD (c .before .before .before .args .s .now) (c .before .before .loop .i) (pos 0)
@@ -45,9 +39,6 @@ back c = toZ-ofZ {w = w32} {z = entry c} (sfits-of (c .size-arg .given))
 cast-size : tie.Need-cast-size Inv-loop μ-loop
 cast-size c = rw (back c) (fits c)
 
-size-requires : tie.Need-size-requires Inv-loop μ-loop
-size-requires c κs = tt
-
 size-is : (c : tie.After-size Inv-loop μ-loop) → c .size .result ≡ natAbs (entry (c .before))
 size-is c = c .size .ensures ∙ simp (back (c .before), toZ-ofZ {w = w64} {z = entry (c .before)} (fits (c .before)))
 
@@ -56,12 +47,6 @@ size-low c = natAbs-le (entry (c .before)) (c .before .size-arg .given)
 
 add-sum : tie.Need-add-sum Inv-loop μ-loop
 add-sum c = omega (arith, size-is c, size-low c)
-
-add-i : tie.Need-add-i Inv-loop μ-loop
-add-i c = omega arith
-
-loop-less : tie.Need-loop-less Inv-loop μ-loop
-loop-less c = omega arith
 
 loop-again : tie.Need-loop-again Inv-loop μ-loop
 loop-again c = (
@@ -80,12 +65,12 @@ sum-of-sizes-spec =
     Inv-loop
     μ-loop
     loop-holds
-    mul-size
-    shared-slice-copy-out-size
+    (λ c. omega arith)
+    (λ c. omega arith)
     cast-size
-    size-requires
+    (λ c κs. tt)
     add-sum
-    add-i
-    loop-less
+    (λ c. omega arith)
+    (λ c. omega arith)
     loop-again
     returns)

@@ -44,9 +44,6 @@ module _ (c : tie.Start) where
   less-fits : SFits w64 (quotZ raised (pos (c .args .q)) -ℤ pos 1)
   less-fits = fits64 _ (omega (arith, small, quot-size raised (c .args .q), size-sub (quotZ raised (pos (c .args .q))) (pos 1)))
 
-cast-modulus : tie.Need-cast-modulus
-cast-modulus c = search needs
-
 div-raised : tie.Need-div-raised
 div-raised c = simp (q-back c) (omega arith, half-fits c)
 
@@ -83,4 +80,4 @@ returns-2 c =
 pub round-quotient-spec : {M : Type 1} → statement M
 round-quotient-spec =
     tie.close
-    (tie.spec cast-modulus div-raised add-raised div-quotient rem-if1 sub-result returns returns-2)
+    (tie.spec (λ c. search needs) div-raised add-raised div-quotient rem-if1 sub-result returns returns-2)

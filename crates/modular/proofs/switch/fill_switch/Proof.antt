@@ -35,12 +35,6 @@ add-end c = omega (arith, inside c)
 mul-switch-entry : tie.Need-mul-switch-entry Inv-loop μ-loop
 mul-switch-entry c = omega (arith, inside c)
 
-sub-switch-entry : tie.Need-sub-switch-entry Inv-loop μ-loop
-sub-switch-entry c = omega arith
-
-part-switch-entry-start : tie.Need-part-switch-entry-start Inv-loop μ-loop
-part-switch-entry-start c = omega arith
-
 part-switch-entry-end : tie.Need-part-switch-entry-end Inv-loop μ-loop
 part-switch-entry-end c = inside c
 
@@ -56,21 +50,6 @@ switch-entry-requires c κs =
       s .pre .4,
       all-part (isResidue (s .args .q * s .args .q)) at (at + width - at) key (s .pre .5),
     )
-
-value-requires : tie.Need-value-requires Inv-loop μ-loop
-value-requires c κs = tt
-
-mul-t17 : tie.Need-mul-t17 Inv-loop μ-loop
-mul-t17 c = omega arith
-
-slice-set-from-out : tie.Need-slice-set-from-out Inv-loop μ-loop
-slice-set-from-out c = omega arith
-
-add-i : tie.Need-add-i Inv-loop μ-loop
-add-i c = omega arith
-
-loop-less : tie.Need-loop-less Inv-loop μ-loop
-loop-less c = omega arith
 
 loop-again : tie.Need-loop-again Inv-loop μ-loop
 loop-again c =
@@ -107,15 +86,15 @@ fill-switch-spec =
     loop-holds
     add-end
     mul-switch-entry
-    sub-switch-entry
-    part-switch-entry-start
+    (λ c. omega arith)
+    (λ c. omega arith)
     part-switch-entry-end
     switch-entry-requires
-    value-requires
-    mul-t17
-    slice-set-from-out
-    add-i
-    loop-less
+    (λ c κs. tt)
+    (λ c. omega arith)
+    (λ c. omega arith)
+    (λ c. omega arith)
+    (λ c. omega arith)
     loop-again
     same-length
     returns)

@@ -27,36 +27,6 @@ loop-holds : tie.Need-loop-holds Inv-loop μ-loop
 unfolding inner
 loop-holds c = (omega arith, record { exact = refl; high = omega arith; low = omega arith })
 
-sub-loop : tie.Need-sub-loop Inv-loop μ-loop
-sub-loop c = search needs
-
-add-end : tie.Need-add-end Inv-loop μ-loop
-add-end c = search needs
-
-mul-inner16 : tie.Need-mul-inner16 Inv-loop μ-loop
-mul-inner16 c = search needs
-
-sub-inner16 : tie.Need-sub-inner16 Inv-loop μ-loop
-sub-inner16 c = search needs
-
-part-inner16-start : tie.Need-part-inner16-start Inv-loop μ-loop
-part-inner16-start c = search needs
-
-part-inner16-end : tie.Need-part-inner16-end Inv-loop μ-loop
-part-inner16-end c = search needs
-
-mul-inner16-2 : tie.Need-mul-inner16-2 Inv-loop μ-loop
-mul-inner16-2 c = search needs
-
-sub-inner16-2 : tie.Need-sub-inner16-2 Inv-loop μ-loop
-sub-inner16-2 c = search needs
-
-part-inner16-start-2 : tie.Need-part-inner16-start-2 Inv-loop μ-loop
-part-inner16-start-2 c = search needs
-
-part-inner16-end-2 : tie.Need-part-inner16-end-2 Inv-loop μ-loop
-part-inner16-end-2 c = search needs
-
 inner16-requires : tie.Need-inner16-requires Inv-loop μ-loop
 inner16-requires c κs =
     let start = c .before .before .before .before in
@@ -76,9 +46,6 @@ full c =
     chunk (loop .j) (loop .j + 16) (start .pre .2) (start .pre .3) (omega arith) (omega arith) (omega arith) (omega arith) (loop .inv .1)
     (toZ-ofZ (sfits-of (c .inner16 .ok)) ∙ c .inner16 .ensures)
 
-loop-less : tie.Need-loop-less Inv-loop μ-loop
-loop-less c = search needs
-
 loop-again : tie.Need-loop-again Inv-loop μ-loop
 loop-again c = (omega arith, full c .next)
 
@@ -93,30 +60,6 @@ rem-lo c = (lit< tt, full c .quotient)
 
 add-lo : tie.Need-add-lo Inv-loop μ-loop
 add-lo c = full c .low
-
-mul-inner-rest : tie.Need-mul-inner-rest Inv-loop μ-loop
-mul-inner-rest c = search needs
-
-sub-inner-rest : tie.Need-sub-inner-rest Inv-loop μ-loop
-sub-inner-rest c = search needs
-
-part-inner-rest-start : tie.Need-part-inner-rest-start Inv-loop μ-loop
-part-inner-rest-start c = search needs
-
-part-inner-rest-end : tie.Need-part-inner-rest-end Inv-loop μ-loop
-part-inner-rest-end c = search needs
-
-mul-inner-rest-2 : tie.Need-mul-inner-rest-2 Inv-loop μ-loop
-mul-inner-rest-2 c = search needs
-
-sub-inner-rest-2 : tie.Need-sub-inner-rest-2 Inv-loop μ-loop
-sub-inner-rest-2 c = search needs
-
-part-inner-rest-start-2 : tie.Need-part-inner-rest-start-2 Inv-loop μ-loop
-part-inner-rest-start-2 c = search needs
-
-part-inner-rest-end-2 : tie.Need-part-inner-rest-end-2 Inv-loop μ-loop
-part-inner-rest-end-2 c = search needs
 
 inner-rest-requires : tie.Need-inner-rest-requires Inv-loop μ-loop
 inner-rest-requires c κs =
@@ -161,31 +104,31 @@ row-sum-spec =
     Inv-loop
     μ-loop
     loop-holds
-    sub-loop
-    add-end
-    mul-inner16
-    sub-inner16
-    part-inner16-start
-    part-inner16-end
-    mul-inner16-2
-    sub-inner16-2
-    part-inner16-start-2
-    part-inner16-end-2
+    (λ c. search needs)
+    (λ c. search needs)
+    (λ c. search needs)
+    (λ c. search needs)
+    (λ c. search needs)
+    (λ c. search needs)
+    (λ c. search needs)
+    (λ c. search needs)
+    (λ c. search needs)
+    (λ c. search needs)
     inner16-requires
     div-hi
     add-hi
     rem-lo
     add-lo
-    loop-less
+    (λ c. search needs)
     loop-again
-    mul-inner-rest
-    sub-inner-rest
-    part-inner-rest-start
-    part-inner-rest-end
-    mul-inner-rest-2
-    sub-inner-rest-2
-    part-inner-rest-start-2
-    part-inner-rest-end-2
+    (λ c. search needs)
+    (λ c. search needs)
+    (λ c. search needs)
+    (λ c. search needs)
+    (λ c. search needs)
+    (λ c. search needs)
+    (λ c. search needs)
+    (λ c. search needs)
     inner-rest-requires
     div-t32
     add-t33

@@ -59,9 +59,6 @@ steps q hi lo m f small =
 steps-of : (c : tie.After-struct-told) → Steps (c .before .before .before .args .q) (c .before .before .row-sum .result .hi) (c .before .before .row-sum .result .lo)
 steps-of c = steps _ _ _ (c .before .before .before .pre .0) (sfits-of (c .struct-told .given .0 .1)) (c .before .before .row-sum .ensures .1)
 
-cast-wide : tie.Need-cast-wide
-cast-wide c = search needs
-
 row-sum-requires : tie.Need-row-sum-requires
 row-sum-requires c κs =
     let q = c .args .q in (
@@ -94,9 +91,6 @@ round-quotient-requires c κs =
     let t = steps-of (c .before .before) in
     (c .before .before .before .before .before .pre .0, simp (t .wide, t .square, t .high, t .rest, toZ-ofZ (t .scaled-fits), t .low, toZ-ofZ (t .near-fits)) (t .near-size))
 
-of-requires : tie.Need-of-requires
-of-requires c κs = search needs
-
 returns : tie.Need-returns
 unfolding switchEntry
 returns c =
@@ -115,12 +109,12 @@ pub switch-entry-spec : {M : Type 1} → statement M
 switch-entry-spec =
     tie.close
     (tie.spec
-    cast-wide
+    (λ c. search needs)
     row-sum-requires
     mul-near
     rem-near
     mul-near-2
     add-near
     round-quotient-requires
-    of-requires
+    (λ c κs. search needs)
     returns)

@@ -25,12 +25,6 @@ abbrev μ-loop : tie.MeasureT-loop
 loop-holds : tie.Need-loop-holds Inv-loop μ-loop
 loop-holds c = fill-start _ _ (rw (length-map, c .pre .3))
 
-mul-tensor-entry : tie.Need-mul-tensor-entry Inv-loop μ-loop
-mul-tensor-entry c = omega arith
-
-shared-slice-copy-out-tensor-entry : tie.Need-shared-slice-copy-out-tensor-entry Inv-loop μ-loop
-shared-slice-copy-out-tensor-entry c = omega arith
-
 tensor-entry-requires : tie.Need-tensor-entry-requires Inv-loop μ-loop
 tensor-entry-requires c κs =
     let s = c .before .before .before in
@@ -40,21 +34,6 @@ tensor-entry-requires c κs =
       simp (toZ-ofZ, s .fits .x) (s .pre .1),
       simp (toZ-ofZ, sfits-of {w = w64} {z = getD d v (pos 0)} (c .tensor-entry-arg .given)) (all-getD (isResidue (s .args .q)) d v (pos 0) (s .pre .2) (c .before .loop-test .taken)),
     )
-
-value-requires : tie.Need-value-requires Inv-loop μ-loop
-value-requires c κs = tt
-
-mul-t12 : tie.Need-mul-t12 Inv-loop μ-loop
-mul-t12 c = omega arith
-
-slice-set-from-out : tie.Need-slice-set-from-out Inv-loop μ-loop
-slice-set-from-out c = omega arith
-
-add-v : tie.Need-add-v Inv-loop μ-loop
-add-v c = omega arith
-
-loop-less : tie.Need-loop-less Inv-loop μ-loop
-loop-less c = omega arith
 
 loop-again : tie.Need-loop-again Inv-loop μ-loop
 loop-again c =
@@ -83,14 +62,14 @@ fill-row-spec =
     Inv-loop
     μ-loop
     loop-holds
-    mul-tensor-entry
-    shared-slice-copy-out-tensor-entry
+    (λ c. omega arith)
+    (λ c. omega arith)
     tensor-entry-requires
-    value-requires
-    mul-t12
-    slice-set-from-out
-    add-v
-    loop-less
+    (λ c κs. tt)
+    (λ c. omega arith)
+    (λ c. omega arith)
+    (λ c. omega arith)
+    (λ c. omega arith)
     loop-again
     same-length
     returns)

@@ -42,20 +42,8 @@ loop-holds c = (omega arith, omega arith, fill-start _ _ (rw (tensor-length, c .
 add-end : tie.Need-add-end Inv-loop μ-loop
 add-end c = omega (arith, inside c)
 
-mul-fill-row : tie.Need-mul-fill-row Inv-loop μ-loop
-mul-fill-row c = omega arith
-
-shared-slice-copy-out-fill-row : tie.Need-shared-slice-copy-out-fill-row Inv-loop μ-loop
-shared-slice-copy-out-fill-row c = omega arith
-
 mul-fill-row-2 : tie.Need-mul-fill-row-2 Inv-loop μ-loop
 mul-fill-row-2 c = omega (arith, inside (c .before))
-
-sub-fill-row : tie.Need-sub-fill-row Inv-loop μ-loop
-sub-fill-row c = omega arith
-
-part-fill-row-start : tie.Need-part-fill-row-start Inv-loop μ-loop
-part-fill-row-start c = omega arith
 
 part-fill-row-end : tie.Need-part-fill-row-end Inv-loop μ-loop
 part-fill-row-end c = omega (arith, inside (c .before))
@@ -70,12 +58,6 @@ fill-row-requires c κs =
       s .pre .2,
       mid-len (l .loop .at) (l .loop .at + length (s .args .d .now)) (l .loop .out) h ∙ add-sub-cancel-left (l .loop .at) (length (s .args .d .now)),
     )
-
-add-u : tie.Need-add-u Inv-loop μ-loop
-add-u c = omega arith
-
-loop-less : tie.Need-loop-less Inv-loop μ-loop
-loop-less c = omega arith
 
 loop-again : tie.Need-loop-again Inv-loop μ-loop
 loop-again c =
@@ -109,15 +91,15 @@ fill-tensor-spec =
     μ-loop
     loop-holds
     add-end
-    mul-fill-row
-    shared-slice-copy-out-fill-row
+    (λ c. omega arith)
+    (λ c. omega arith)
     mul-fill-row-2
-    sub-fill-row
-    part-fill-row-start
+    (λ c. omega arith)
+    (λ c. omega arith)
     part-fill-row-end
     fill-row-requires
-    add-u
-    loop-less
+    (λ c. omega arith)
+    (λ c. omega arith)
     loop-again
     same-length
     returns)

@@ -5,9 +5,6 @@ use borrow.Author.Needs.{needs}
 use Rattle.refusal.proofs.Params.make.Statement.{statement}
 use Rattle.refusal.proofs.Params.make.Tie as tie
 
-in-range-requires : tie.Need-in-range-requires
-in-range-requires c κs = search needs
-
 returns : tie.Need-returns
 unfolding made
 returns c = made-values _ (sym (made-set _ (sym (c .before .in-range .ensures) ∙ c .if1 .taken)))
@@ -17,4 +14,4 @@ unfolding made
 returns-2 c = made-values _ (sym (made-refused _ (sym (c .before .in-range .ensures) ∙ c .if1 .left)))
 
 pub make-spec : {M : Type 1} → statement M
-make-spec = tie.close (tie.spec in-range-requires returns returns-2)
+make-spec = tie.close (tie.spec (λ c κs. search needs) returns returns-2)

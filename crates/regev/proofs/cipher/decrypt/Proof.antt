@@ -8,9 +8,6 @@ use Rattle.regev.proofs.ReadyCipher.{decrypt-ready}
 use Rattle.regev.proofs.cipher.decrypt.Statement.{statement}
 use Rattle.regev.proofs.cipher.decrypt.Tie as tie
 
-decrypt-number-requires : tie.Need-decrypt-number-requires
-decrypt-number-requires c κs = search needs
-
 returns : tie.Need-returns
 unfolding decryptAnswer
 returns c = rw (← c .before .decrypt-number .ensures, doneOr-refused _ _ (c .if1 .taken))
@@ -30,4 +27,4 @@ unfolding decryptAnswer doneOr
 returns-2 c = rw (done (c .before), c .decrypt-bit .ensures)
 
 pub decrypt-spec : {M : Type 1} → statement M
-decrypt-spec = tie.close (tie.spec decrypt-number-requires returns decrypt-bit-requires returns-2)
+decrypt-spec = tie.close (tie.spec (λ c κs. search needs) returns decrypt-bit-requires returns-2)

@@ -40,15 +40,6 @@ inner-product-requires : tie.Need-inner-product-requires
 inner-product-requires c κs =
     (c .pre .1, c .pre .2, residues-upto (c .args .q) 549755813888 (c .args .c .now) (omega (arith, c .pre .0 .high)) (c .pre .3))
 
-of-requires : tie.Need-of-requires
-of-requires c κs = search needs
-
-value-requires : tie.Need-value-requires
-value-requires c κs = search needs
-
-cast-modulus : tie.Need-cast-modulus
-cast-modulus c = search needs
-
 -- what d is, and what the machine reads back of each number
 module _ (c : tie.After-value) where
   abbrev start : tie.Start
@@ -114,9 +105,9 @@ decrypt-bit-spec =
     tie.close
     (tie.spec
     inner-product-requires
-    of-requires
-    value-requires
-    cast-modulus
+    (λ c κs. search needs)
+    (λ c κs. search needs)
+    (λ c. search needs)
     mul-if1
     returns
     mul-if2

@@ -10,24 +10,12 @@ use Rattle.keys.specs.Chain.{params-modulus, short, params-tested}
 use Rattle.regev.proofs.cipher.decrypt_number.Statement.{statement}
 use Rattle.regev.proofs.cipher.decrypt_number.Tie as tie
 
-in-range-requires : tie.Need-in-range-requires
-in-range-requires c κs = search needs
-
 returns : tie.Need-returns
 unfolding firstOf decryptRows
 returns c = rw (params-tested _ (c .before .in-range .ensures) (c .if1 .taken))
 
 good : (c : tie.Else1) → badParams (c .before .before .args .p) ≡ false
 good c = params-tested _ (c .before .in-range .ensures) (c .if1 .left)
-
-cast-n : tie.Need-cast-n
-cast-n c = search needs
-
-length-differs-requires : tie.Need-length-differs-requires
-length-differs-requires c κs = search needs
-
-length-differs-requires-2 : tie.Need-length-differs-requires-2
-length-differs-requires-2 c κs = search needs
 
 returns-2 : tie.Need-returns-2
 unfolding firstOf decryptRows
@@ -42,17 +30,11 @@ returns-2 c =
 is-outside-requires : tie.Need-is-outside-requires
 is-outside-requires c κs = params-modulus (params-in-range _ (good (c .before .before .before .before)))
 
-row-requires : tie.Need-row-requires
-row-requires c κs = search needs
-
 is-bad-key-requires : tie.Need-is-bad-key-requires
 is-bad-key-requires c κs =
     let e = c .before .before in
     short (params-in-range _ (good (e .before .before .before .before)))
     (sym (e .before .before .length-differs .ensures) ∙ or-left _ _ (e .if2 .left))
-
-row-requires-2 : tie.Need-row-requires-2
-row-requires-2 c κs = search needs
 
 returns-3 : tie.Need-returns-3
 unfolding firstOf decryptRows
@@ -73,14 +55,14 @@ pub decrypt-number-spec : {M : Type 1} → statement M
 decrypt-number-spec =
     tie.close
     (tie.spec
-    in-range-requires
+    (λ c κs. search needs)
     returns
-    cast-n
-    length-differs-requires
-    length-differs-requires-2
+    (λ c. search needs)
+    (λ c κs. search needs)
+    (λ c κs. search needs)
     returns-2
     is-outside-requires
-    row-requires
+    (λ c κs. search needs)
     is-bad-key-requires
-    row-requires-2
+    (λ c κs. search needs)
     returns-3)

@@ -10,9 +10,6 @@ use Rattle.regev.proofs.ReadyCipher.{EncryptReady, encrypt-ready}
 use Rattle.regev.proofs.cipher.encrypt.Statement.{statement}
 use Rattle.regev.proofs.cipher.encrypt.Tie as tie
 
-encrypt-number-requires : tie.Need-encrypt-number-requires
-encrypt-number-requires c κs = search needs
-
 number : (c : tie.After-encrypt-number)
     → let args = c .before .args in
     c .encrypt-number .result ≡ firstOf (encryptRows (args .p) (args .s .now) (args .bit) (args .mask .now) (args .error) (length (args .out .now)))
@@ -33,9 +30,6 @@ encrypt-into-requires c κs =
     rw (toZ-ofZ (c .before .before .before .fits .error))
     (r .modulus, r .key-length, r .mask-length, r .key-small, r .bit-small, r .residues, r .error-small)
 
-same-length : tie.Need-same-length
-same-length c = search needs
-
 returns-2 : tie.Need-returns-2
 unfolding encryptAnswer encryptResult doneOr
 returns-2 c =
@@ -46,4 +40,4 @@ returns-2 c =
 pub encrypt-spec : {M : Type 1} → statement M
 encrypt-spec =
     tie.close
-    (tie.spec encrypt-number-requires returns encrypt-into-requires same-length returns-2)
+    (tie.spec (λ c κs. search needs) returns encrypt-into-requires (λ c. search needs) returns-2)

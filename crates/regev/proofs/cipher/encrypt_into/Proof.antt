@@ -49,26 +49,11 @@ module _ (c : tie.Start) where
       let product : natAbs (pos (c .args .bit) *ℤ half (c .args .q)) ≤ 1 * 524288 = mul-le-mul {m₂ = 524288} (c .pre .4) (omega (arith, c .pre .0 .high)) in
       masked (omega arith) (rw is (omega (arith, small))) (omega (arith, c .pre .6))
 
-cast-half : tie.Need-cast-half
-cast-half c = search needs
-
 div-half : tie.Need-div-half
 div-half c = rw (q-back c) (omega arith, half-fits c)
 
-cast-first : tie.Need-cast-first
-cast-first c = search needs
-
 mul-first : tie.Need-mul-first
 mul-first c = simp (q-back c, bit-back c, toZ-ofZ, half-fits c) (steps c refl .first)
-
-sub-inner-product : tie.Need-sub-inner-product
-sub-inner-product c = search needs
-
-part-inner-product-start : tie.Need-part-inner-product-start
-part-inner-product-start c = search needs
-
-part-inner-product-end : tie.Need-part-inner-product-end
-part-inner-product-end c = search needs
 
 inner-product-requires : tie.Need-inner-product-requires
 inner-product-requires c κs =
@@ -101,15 +86,6 @@ add-first c =
     let t = steps s (x-is c) in
     simp (q-back s, bit-back s, x-back c, toZ-ofZ, half-fits s, t .first, t .less, s .fits .error) (t .all)
 
-of-requires : tie.Need-of-requires
-of-requires c κs = search needs
-
-value-requires : tie.Need-value-requires
-value-requires c κs = search needs
-
-slice-set-from-out : tie.Need-slice-set-from-out
-slice-set-from-out c = search needs
-
 -- the buffer with entry 0 in it
 abbrev stored : tie.After-value → List ℤ
 stored c = set (c .before .before .before .before .args .out .now) 0 (toZ w64 (ofZ w64 (c .value .result)))
@@ -119,9 +95,6 @@ sub-copy c = simp length-set (omega arith)
 
 part-copy-start : tie.Need-part-copy-start
 part-copy-start c = simp length-set (omega arith)
-
-part-copy-end : tie.Need-part-copy-end
-part-copy-end c = search needs
 
 copy-requires : tie.Need-copy-requires
 copy-requires c κs =
@@ -154,22 +127,22 @@ pub encrypt-into-spec : {M : Type 1} → statement M
 encrypt-into-spec =
     tie.close
     (tie.spec
-    cast-half
+    (λ c. search needs)
     div-half
-    cast-first
+    (λ c. search needs)
     mul-first
-    sub-inner-product
-    part-inner-product-start
-    part-inner-product-end
+    (λ c. search needs)
+    (λ c. search needs)
+    (λ c. search needs)
     inner-product-requires
     sub-first
     add-first
-    of-requires
-    value-requires
-    slice-set-from-out
+    (λ c κs. search needs)
+    (λ c κs. search needs)
+    (λ c. search needs)
     sub-copy
     part-copy-start
-    part-copy-end
+    (λ c. search needs)
     copy-requires
     same-length
     returns)

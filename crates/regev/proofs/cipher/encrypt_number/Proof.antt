@@ -13,9 +13,6 @@ use Rattle.keys.specs.Chain.{params-modulus, short, params-tested}
 use Rattle.regev.proofs.cipher.encrypt_number.Statement.{statement}
 use Rattle.regev.proofs.cipher.encrypt_number.Tie as tie
 
-in-range-requires : tie.Need-in-range-requires
-in-range-requires c κs = search needs
-
 returns : tie.Need-returns
 unfolding firstOf encryptRows
 returns c = rw (params-tested _ (c .before .in-range .ensures) (c .if1 .taken))
@@ -26,20 +23,8 @@ good c = params-tested _ (c .before .in-range .ensures) (c .if1 .left)
 ranged : (c : tie.Else1) → InRange (c .before .before .args .p)
 ranged c = params-in-range _ (good c)
 
-cast-n : tie.Need-cast-n
-cast-n c = search needs
-
-length-differs-requires : tie.Need-length-differs-requires
-length-differs-requires c κs = search needs
-
 sub-length-differs : tie.Need-sub-length-differs
 sub-length-differs c = omega (arith, ranged (c .before .before) .n-low)
-
-length-differs-requires-2 : tie.Need-length-differs-requires-2
-length-differs-requires-2 c κs = search needs
-
-length-differs-requires-3 : tie.Need-length-differs-requires-3
-length-differs-requires-3 c κs = search needs
 
 returns-2 : tie.Need-returns-2
 unfolding firstOf encryptRows
@@ -52,35 +37,14 @@ returns-2 c =
       c .if2 .taken,
     )
 
-slice-aggregate-is-exceeding : tie.Need-slice-aggregate-is-exceeding
-slice-aggregate-is-exceeding c = search needs
-
-is-exceeding-requires : tie.Need-is-exceeding-requires
-is-exceeding-requires c κs = search needs
-
-row-requires : tie.Need-row-requires
-row-requires c κs = search needs
-
 is-outside-requires : tie.Need-is-outside-requires
 is-outside-requires c κs = params-modulus (ranged (c .before .before .before .before .before .before .before .before))
-
-row-requires-2 : tie.Need-row-requires-2
-row-requires-2 c κs = search needs
-
-is-bad-bit-requires : tie.Need-is-bad-bit-requires
-is-bad-bit-requires c κs = search needs
-
-row-requires-3 : tie.Need-row-requires-3
-row-requires-3 c κs = search needs
 
 is-bad-key-requires : tie.Need-is-bad-key-requires
 is-bad-key-requires c κs =
     let e = c .before .before .before .before .before .before .before in
     short (ranged (e .before .before .before .before .before))
     (sym (e .before .before .before .length-differs .ensures) ∙ or-left _ _ (or-left _ _ (e .if2 .left)))
-
-row-requires-4 : tie.Need-row-requires-4
-row-requires-4 c κs = search needs
 
 returns-3 : tie.Need-returns-3
 unfolding firstOf encryptRows
@@ -109,21 +73,21 @@ pub encrypt-number-spec : {M : Type 1} → statement M
 encrypt-number-spec =
     tie.close
     (tie.spec
-    in-range-requires
+    (λ c κs. search needs)
     returns
-    cast-n
-    length-differs-requires
+    (λ c. search needs)
+    (λ c κs. search needs)
     sub-length-differs
-    length-differs-requires-2
-    length-differs-requires-3
+    (λ c κs. search needs)
+    (λ c κs. search needs)
     returns-2
-    slice-aggregate-is-exceeding
-    is-exceeding-requires
-    row-requires
+    (λ c. search needs)
+    (λ c κs. search needs)
+    (λ c κs. search needs)
     is-outside-requires
-    row-requires-2
-    is-bad-bit-requires
-    row-requires-3
+    (λ c κs. search needs)
+    (λ c κs. search needs)
+    (λ c κs. search needs)
     is-bad-key-requires
-    row-requires-4
+    (λ c κs. search needs)
     returns-3)

@@ -14,9 +14,6 @@ use borrow.Author.Needs.{needs}
 use Rattle.regev.proofs.gates.and.Statement.{statement}
 use Rattle.regev.proofs.gates.and.Tie as tie
 
-and-number-requires : tie.Need-and-number-requires
-and-number-requires c κs = search needs
-
 returns : tie.Need-returns
 unfolding andAnswer andResult andScratch
 returns c =
@@ -54,12 +51,6 @@ cast-t19 c =
     let r = ready (c .before .before .before .before .before .before) in
     omega (arith, r .fits, r .range .q-high, c .and-bound .ensures .0)
 
-same-length : tie.Need-same-length
-same-length c = search needs
-
-same-length-2 : tie.Need-same-length-2
-same-length-2 c = search needs
-
 returns-2 : tie.Need-returns-2
 unfolding andAnswer andResult andScratch
 returns-2 c =
@@ -79,11 +70,11 @@ pub and-spec : {M : Type 1} → statement M
 and-spec =
     tie.close
     (tie.spec
-    and-number-requires
+    (λ c κs. search needs)
     returns
     and-into-requires
     and-bound-requires
     cast-t19
-    same-length
-    same-length-2
+    (λ c. search needs)
+    (λ c. search needs)
     returns-2)

@@ -51,32 +51,11 @@ sizes {p} {x} {y} r h g =
 known : (c : tie.After-struct-known4) → Sizes (c .before .before .before .before .args .p) (c .before .before .before .before .args .b1) (c .before .before .before .before .args .b2)
 known c = let s = c .before .before .before .before in sizes (s .pre .0) (s .pre .1) (s .pre .2)
 
-cast-n : tie.Need-cast-n
-cast-n c = search needs
-
-cast-q : tie.Need-cast-q
-cast-q c = search needs
-
-cast-l : tie.Need-cast-l
-cast-l c = search needs
-
-cast-f : tie.Need-cast-f
-cast-f c = search needs
-
-mul-product : tie.Need-mul-product
-mul-product c = search needs
-
 mul-product-2 : tie.Need-mul-product-2
 mul-product-2 c = omega (arith, known c .twice)
 
-add-product : tie.Need-add-product
-add-product c = search needs
-
 mul-product-3 : tie.Need-mul-product-3
 mul-product-3 c = omega (arith, known c .linear)
-
-mul-product-4 : tie.Need-mul-product-4
-mul-product-4 c = search needs
 
 mul-product-5 : tie.Need-mul-product-5
 mul-product-5 c = omega (arith, known c .mixed)
@@ -92,12 +71,6 @@ mul-product-7 c = omega (arith, known c .square)
 
 add-product-3 : tie.Need-add-product-3
 add-product-3 c = omega (arith, known c .linear, known c .mixed, known c .square)
-
-mul-product-8 : tie.Need-mul-product-8
-mul-product-8 c = search needs
-
-div-product : tie.Need-div-product
-div-product c = search needs
 
 mul-result : tie.Need-mul-result
 mul-result c = omega (arith, known c .entries)
@@ -119,22 +92,22 @@ pub and-bound-spec : {M : Type 1} → statement M
 and-bound-spec =
     tie.close
     (tie.spec
-    cast-n
-    cast-q
-    cast-l
-    cast-f
-    mul-product
+    (λ c. search needs)
+    (λ c. search needs)
+    (λ c. search needs)
+    (λ c. search needs)
+    (λ c. search needs)
     mul-product-2
-    add-product
+    (λ c. search needs)
     mul-product-3
-    mul-product-4
+    (λ c. search needs)
     mul-product-5
     add-product-2
     mul-product-6
     mul-product-7
     add-product-3
-    mul-product-8
-    div-product
+    (λ c. search needs)
+    (λ c. search needs)
     mul-result
     mul-result-2
     add-result

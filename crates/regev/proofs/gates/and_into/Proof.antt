@@ -33,15 +33,6 @@ fill-switch-requires c κs =
       r .8,
     )
 
-zero-requires : tie.Need-zero-requires
-zero-requires c κs = search needs
-
-same-length : tie.Need-same-length
-same-length c = search needs
-
-same-length-2 : tie.Need-same-length-2
-same-length-2 c = search needs
-
 returns : tie.Need-returns
 unfolding AND
 returns c =
@@ -58,7 +49,7 @@ and-into-spec =
     (tie.spec
     fill-tensor-requires
     fill-switch-requires
-    zero-requires
-    same-length
-    same-length-2
+    (λ c κs. search needs)
+    (λ c. search needs)
+    (λ c. search needs)
     returns)

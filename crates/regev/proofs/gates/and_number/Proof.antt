@@ -17,15 +17,9 @@ use borrow.Author.Needs.{needs}
 use Rattle.regev.proofs.gates.and_number.Statement.{statement}
 use Rattle.regev.proofs.gates.and_number.Tie as tie
 
-in-range-requires : tie.Need-in-range-requires
-in-range-requires c κs = search needs
-
 returns : tie.Need-returns
 unfolding firstOf andRows badParams
 returns c = simp (sym (c .before .in-range .ensures), c .if1 .taken)
-
-cast-n : tie.Need-cast-n
-cast-n c = search needs
 
 range : (a : tie.Else1) → InRange (a .before .before .args .p)
 range a = answered-range _ (a .before .in-range .ensures) (a .if1 .left)
@@ -33,25 +27,10 @@ range a = answered-range _ (a .before .in-range .ensures) (a .if1 .left)
 mul-square : tie.Need-mul-square
 mul-square c = let r = range (c .before) in omega (arith, mul-le-mul (r .n-high) (r .n-high))
 
-length-differs-requires : tie.Need-length-differs-requires
-length-differs-requires c κs = search needs
-
-length-differs-requires-2 : tie.Need-length-differs-requires-2
-length-differs-requires-2 c κs = search needs
-
 mul-length-differs : tie.Need-mul-length-differs
 mul-length-differs c =
     let r = range (c .before .before .before) in
     omega (arith, mul-le-mul (r .n-high) (mul-le-mul (r .n-high) (r .n-high)))
-
-length-differs-requires-3 : tie.Need-length-differs-requires-3
-length-differs-requires-3 c κs = search needs
-
-length-differs-requires-4 : tie.Need-length-differs-requires-4
-length-differs-requires-4 c κs = search needs
-
-length-differs-requires-5 : tie.Need-length-differs-requires-5
-length-differs-requires-5 c κs = search needs
 
 returns-2 : tie.Need-returns-2
 unfolding firstOf andRows badParams
@@ -76,18 +55,6 @@ is-outside-requires-2 c κs = params-modulus (range (c .before .before .before .
 
 is-outside-big-requires : tie.Need-is-outside-big-requires
 is-outside-big-requires c κs = params-modulus (range (c .before .before .before .before .before .before .before .before .before))
-
-is-over-requires : tie.Need-is-over-requires
-is-over-requires c κs = search needs
-
-is-over-requires-2 : tie.Need-is-over-requires-2
-is-over-requires-2 c κs = search needs
-
-row-requires : tie.Need-row-requires
-row-requires c κs = search needs
-
-row-requires-2 : tie.Need-row-requires-2
-row-requires-2 c κs = search needs
 
 abbrev start : tie.After-row2 → tie.Start
 start c = c .before .before .before .before .before .before .before .before .before .before .before .before .before .before .before .before
@@ -155,12 +122,6 @@ and-bound-requires c κs = (
   bound-fits _ _ (search (or-left, or-right, clear c .1 .0) depth 8),
 )
 
-is-over-requires-3 : tie.Need-is-over-requires-3
-is-over-requires-3 c κs = search needs
-
-row-requires-3 : tie.Need-row-requires-3
-row-requires-3 c κs = search needs
-
 returns-4 : tie.Need-returns-4
 unfolding firstOf
 returns-4 c =
@@ -172,26 +133,26 @@ pub and-number-spec : {M : Type 1} → statement M
 and-number-spec =
     tie.close
     (tie.spec
-    in-range-requires
+    (λ c κs. search needs)
     returns
-    cast-n
+    (λ c. search needs)
     mul-square
-    length-differs-requires
-    length-differs-requires-2
+    (λ c κs. search needs)
+    (λ c κs. search needs)
     mul-length-differs
-    length-differs-requires-3
-    length-differs-requires-4
-    length-differs-requires-5
+    (λ c κs. search needs)
+    (λ c κs. search needs)
+    (λ c κs. search needs)
     returns-2
     is-outside-requires
     is-outside-requires-2
     is-outside-big-requires
-    is-over-requires
-    is-over-requires-2
-    row-requires
-    row-requires-2
+    (λ c κs. search needs)
+    (λ c κs. search needs)
+    (λ c κs. search needs)
+    (λ c κs. search needs)
     returns-3
     and-bound-requires
-    is-over-requires-3
-    row-requires-3
+    (λ c κs. search needs)
+    (λ c κs. search needs)
     returns-4)

@@ -11,9 +11,6 @@ use borrow.Author.Needs.{needs}
 use Rattle.regev.proofs.gates.not.Statement.{statement}
 use Rattle.regev.proofs.gates.not.Tie as tie
 
-not-number-requires : tie.Need-not-number-requires
-not-number-requires c κs = search needs
-
 returns : tie.Need-returns
 unfolding notAnswer notResult
 returns c =
@@ -29,9 +26,6 @@ not-into-requires c κs =
     let r = not-ready _ _ _ _ (zero (c .before)) in
     (params-modulus (r .range), r .long ∙ sym (r .room), omega (arith, r .room, r .range .n-low), r .inside)
 
-same-length : tie.Need-same-length
-same-length c = search needs
-
 returns-2 : tie.Need-returns-2
 unfolding notAnswer notResult NOT-bound
 returns-2 c =
@@ -39,4 +33,4 @@ returns-2 c =
     (bounded-done _ z refl, done-written _ _ z (c .before .not-into .ensures))
 
 pub not-spec : {M : Type 1} → statement M
-not-spec = tie.close (tie.spec not-number-requires returns not-into-requires same-length returns-2)
+not-spec = tie.close (tie.spec (λ c κs. search needs) returns not-into-requires (λ c. search needs) returns-2)

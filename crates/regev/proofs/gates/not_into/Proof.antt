@@ -39,34 +39,16 @@ sum c =
     let d = s .args .c .now in
     rw (half-is (s .pre .0)) (added _ _ (s .pre .0) (residue-size q _ (all-getD (isResidue q) d 0 (pos 0) (s .pre .3) (omega arith))) (omega arith))
 
-copy-requires : tie.Need-copy-requires
-copy-requires c κs = search needs
-
-cast-half : tie.Need-cast-half
-cast-half c = search needs
-
 div-half : tie.Need-div-half
 div-half c =
     let m = c .before .before .before .pre .0 in
     (omega arith, rw (half-is m) (fits64 (half (c .before .before .before .args .q)) (omega (arith, m .high))))
-
-shared-slice-copy-out-near : tie.Need-shared-slice-copy-out-near
-shared-slice-copy-out-near c = search needs
 
 add-near : tie.Need-add-near
 add-near c = sum c .fits
 
 near-requires : tie.Need-near-requires
 near-requires c κs = (c .before .before .before .before .pre .0, sum c .near)
-
-value-requires : tie.Need-value-requires
-value-requires c κs = search needs
-
-slice-set-from-out : tie.Need-slice-set-from-out
-slice-set-from-out c = search needs
-
-same-length : tie.Need-same-length
-same-length c = search needs
 
 returns : tie.Need-returns
 returns c =
@@ -86,13 +68,13 @@ pub not-into-spec : {M : Type 1} → statement M
 not-into-spec =
     tie.close
     (tie.spec
-    copy-requires
-    cast-half
+    (λ c κs. search needs)
+    (λ c. search needs)
     div-half
-    shared-slice-copy-out-near
+    (λ c. search needs)
     add-near
     near-requires
-    value-requires
-    slice-set-from-out
-    same-length
+    (λ c κs. search needs)
+    (λ c. search needs)
+    (λ c. search needs)
     returns)

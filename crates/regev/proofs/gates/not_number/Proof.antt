@@ -7,21 +7,9 @@ use borrow.Author.Needs.{needs}
 use Rattle.regev.proofs.gates.not_number.Statement.{statement}
 use Rattle.regev.proofs.gates.not_number.Tie as tie
 
-in-range-requires : tie.Need-in-range-requires
-in-range-requires c κs = search needs
-
 returns : tie.Need-returns
 unfolding firstOf notRows badParams
 returns c = simp (sym (c .before .in-range .ensures), c .if1 .taken)
-
-cast-n : tie.Need-cast-n
-cast-n c = search needs
-
-length-differs-requires : tie.Need-length-differs-requires
-length-differs-requires c κs = search needs
-
-length-differs-requires-2 : tie.Need-length-differs-requires-2
-length-differs-requires-2 c κs = search needs
 
 returns-2 : tie.Need-returns-2
 unfolding firstOf notRows badParams
@@ -35,19 +23,10 @@ returns-2 c =
       c .if2 .taken,
     )
 
-is-over-requires : tie.Need-is-over-requires
-is-over-requires c κs = search needs
-
-row-requires : tie.Need-row-requires
-row-requires c κs = search needs
-
 is-outside-requires : tie.Need-is-outside-requires
 is-outside-requires c κs =
     let a = c .before .before .before .before .before .before in
     params-modulus (answered-range _ (a .before .in-range .ensures) (a .if1 .left))
-
-row-requires-2 : tie.Need-row-requires-2
-row-requires-2 c κs = search needs
 
 returns-3 : tie.Need-returns-3
 unfolding firstOf notRows badParams
@@ -71,14 +50,14 @@ pub not-number-spec : {M : Type 1} → statement M
 not-number-spec =
     tie.close
     (tie.spec
-    in-range-requires
+    (λ c κs. search needs)
     returns
-    cast-n
-    length-differs-requires
-    length-differs-requires-2
+    (λ c. search needs)
+    (λ c κs. search needs)
+    (λ c κs. search needs)
     returns-2
-    is-over-requires
-    row-requires
+    (λ c κs. search needs)
+    (λ c κs. search needs)
     is-outside-requires
-    row-requires-2
+    (λ c κs. search needs)
     returns-3)

@@ -12,9 +12,6 @@ use borrow.Author.Needs.{needs}
 use Rattle.regev.proofs.gates.xor.Statement.{statement}
 use Rattle.regev.proofs.gates.xor.Tie as tie
 
-xor-number-requires : tie.Need-xor-number-requires
-xor-number-requires c κs = search needs
-
 returns : tie.Need-returns
 unfolding xorAnswer xorResult
 returns c =
@@ -37,9 +34,6 @@ add-t13 : tie.Need-add-t13
 unfolding XOR-bound
 add-t13 c = let r = ready (c .before .before .before) in omega (arith, r .fits, r .range .q-high)
 
-same-length : tie.Need-same-length
-same-length c = search needs
-
 returns-2 : tie.Need-returns-2
 unfolding xorAnswer xorResult XOR-bound
 returns-2 c =
@@ -49,4 +43,4 @@ returns-2 c =
 pub xor-spec : {M : Type 1} → statement M
 xor-spec =
     tie.close
-    (tie.spec xor-number-requires returns xor-into-requires add-t13 same-length returns-2)
+    (tie.spec (λ c κs. search needs) returns xor-into-requires add-t13 (λ c. search needs) returns-2)

@@ -47,35 +47,8 @@ sum c =
 loop-holds : tie.Need-loop-holds Inv-loop μ-loop
 loop-holds c = fill-start _ _ (length-xor _ _ _ (c .pre .1 ∙ sym (c .pre .2)) ∙ c .pre .1)
 
-mul-near : tie.Need-mul-near Inv-loop μ-loop
-mul-near c = omega arith
-
-shared-slice-copy-out-near : tie.Need-shared-slice-copy-out-near Inv-loop μ-loop
-shared-slice-copy-out-near c = omega arith
-
-mul-near-2 : tie.Need-mul-near-2 Inv-loop μ-loop
-mul-near-2 c = omega arith
-
-shared-slice-copy-out-near-2 : tie.Need-shared-slice-copy-out-near-2 Inv-loop μ-loop
-shared-slice-copy-out-near-2 c = omega arith
-
 near-requires : tie.Need-near-requires Inv-loop μ-loop
 near-requires c κs = (c .before .before .before .before .pre .0, sum (c .before .before) .near)
-
-value-requires : tie.Need-value-requires Inv-loop μ-loop
-value-requires c κs = tt
-
-mul-t16 : tie.Need-mul-t16 Inv-loop μ-loop
-mul-t16 c = omega arith
-
-slice-set-from-out : tie.Need-slice-set-from-out Inv-loop μ-loop
-slice-set-from-out c = omega arith
-
-add-i : tie.Need-add-i Inv-loop μ-loop
-add-i c = omega arith
-
-loop-less : tie.Need-loop-less Inv-loop μ-loop
-loop-less c = omega arith
 
 loop-again : tie.Need-loop-again Inv-loop μ-loop
 loop-again c =
@@ -105,17 +78,17 @@ xor-into-spec =
     Inv-loop
     μ-loop
     loop-holds
-    mul-near
-    shared-slice-copy-out-near
-    mul-near-2
-    shared-slice-copy-out-near-2
+    (λ c. omega arith)
+    (λ c. omega arith)
+    (λ c. omega arith)
+    (λ c. omega arith)
     add-near
     near-requires
-    value-requires
-    mul-t16
-    slice-set-from-out
-    add-i
-    loop-less
+    (λ c κs. tt)
+    (λ c. omega arith)
+    (λ c. omega arith)
+    (λ c. omega arith)
+    (λ c. omega arith)
     loop-again
     same-length
     returns)

@@ -5,11 +5,8 @@ use borrow.Author.Needs.{needs, sfits-of}
 use Rattle.modular.proofs.residue.Residue.near.Statement.{statement}
 use Rattle.modular.proofs.residue.Residue.near.Tie as tie
 
-one-turn-requires : tie.Need-one-turn-requires
-one-turn-requires c κs = search needs
-
 returns : tie.Need-returns
 returns c = toZ-ofZ (sfits-of (c .one-turn .ok)) ∙ simp (toZ-ofZ, c .before .fits .x) at (c .one-turn .ensures)
 
 pub near-spec : {M : Type 1} → statement M
-near-spec = tie.close (tie.spec one-turn-requires returns)
+near-spec = tie.close (tie.spec (λ c κs. search needs) returns)

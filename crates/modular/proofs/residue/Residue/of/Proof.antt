@@ -5,11 +5,8 @@ use borrow.Author.Needs.{needs, sfits-of}
 use Rattle.modular.proofs.residue.Residue.of.Statement.{statement}
 use Rattle.modular.proofs.residue.Residue.of.Tie as tie
 
-centre-requires : tie.Need-centre-requires
-centre-requires c κs = search needs
-
 returns : tie.Need-returns
 returns c = toZ-ofZ (sfits-of (c .centre .ok)) ∙ simp (toZ-ofZ, c .before .fits .x) at (c .centre .ensures)
 
 pub of-spec : {M : Type 1} → statement M
-of-spec = tie.close (tie.spec centre-requires returns)
+of-spec = tie.close (tie.spec (λ c κs. search needs) returns)
