@@ -55,9 +55,10 @@ class Code:
         return audit_edits.of_code(folder, crate)
 
     @staticmethod
-    def ready(folder, crate):
+    def is_ready(folder, crate):
+        """Whether the crate as it stands is proved, and kept for the edits."""
         said(folder, "check", crate)
-        said(folder, "dev", crate)
+        return "logic=proved" in said(folder, "dev", crate)
 
     @staticmethod
     def verdict(folder, edit):
@@ -97,8 +98,9 @@ class Definitions:
         return audit_edits.of_definitions(folder, crate)
 
     @staticmethod
-    def ready(folder, crate):
-        said(folder, "check")
+    def is_ready(folder, crate):
+        """Whether all crates as they stand are proved."""
+        return "rt: ok" in said(folder, "check")
 
     @staticmethod
     def verdict(folder, edit):
@@ -133,7 +135,8 @@ def try_all(kind, folder, crates, part, parts):
     path.touch()
     known = {t[:6] for t in results(folder)}
     for crate in crates:
-        kind.ready(folder, crate)
+        if not kind.is_ready(folder, crate):
+            sys.exit(f"audit: {crate} is not proved before any edit")
         for number, edit in enumerate(list(kind.edits(folder, crate))):
             if number % parts == part and (edit.crate, edit.file, str(edit.line), edit.name, edit.old, edit.new) not in known:
                 done = tried(kind, folder, edit)
