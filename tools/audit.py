@@ -30,6 +30,7 @@ ENGINE = ("refusal", "modular", "keys", "regev", "circuit", "evaluation", "recor
 THEOREMS = ("whole", "refusal", "scheme", "noise", "circuit", "vouched", "circuitfile")
 RESULTS = "audit.tsv"
 REFUSED, ACCEPTED, BAD = "refused", "accepted", "does not compile"
+SHOWN_FIRST = (("Figures", "Ties", "Slips", "Example", "Witnesses", "Witness"), ("Wording", "Unique", "Lowest", "Exact", "Wrong", "Held"))
 
 Tried = collections.namedtuple("Tried", "crate file line name old new verdict by")
 
@@ -108,11 +109,11 @@ class Definitions:
         output = said(folder, "check")
         if "rt: ok" in output:
             return ACCEPTED, ""
-        found = re.findall(r"^\S*/crates/(\w+)/(?:specs|proofs)/(\S+)\.antt:\d+:\d+: error: `([^`]+)`", output, re.M)
-        broken = dict.fromkeys(f"{crate}/{file}: {name}" for crate, file, name in found)
-        if not broken or f"{edit.crate}/{edit.file[:-5]}: {edit.name}" in broken:
+        found = re.findall(r"^\S*/crates/(\w+)/(specs|proofs)/(\S+)\.antt:\d+:\d+: error: `([^`]+)`", output, re.M)
+        broken = dict.fromkeys(f"{crate}/{file}: {name}" for crate, folder, file, name in found if folder == "specs")
+        if not found or f"{edit.crate}/{edit.file[:-5]}: {edit.name}" in broken:
             return BAD, ""
-        return REFUSED, "; ".join(broken)
+        return (REFUSED if broken else ACCEPTED), "; ".join(broken)
 
 
 def tried(kind, folder, edit):
@@ -174,15 +175,30 @@ def table(rows):
         print(f"| {crate} | {len({(t.crate, t.file, t.name) for t in of})} | " + " | ".join(f"{n:,}" for n in counts(of)) + " |")
 
 
-def page(rows):
-    """The counts, and every edit."""
-    table(rows)
-    print("\nR is refused, C does not compile, A is accepted.")
+def listed(rows):
+    """Every edit, under the name of what it is an edit of."""
+    print("R is refused, C does not compile, A is accepted.")
     for name, of in grouped(rows, lambda t: f"{t.crate}/{t.file} {t.name}").items():
         print(f"\n### {name}\n\n```")
         for t in of:
             print({REFUSED: "R", BAD: "C", ACCEPTED: "A"}[t.verdict] + f" {t.old}  →  {t.new}")
         print("```")
+
+
+def weight(broken):
+    """Figures come first, then sentences and theorems, then laws."""
+    file = re.match(r"\w+/([\w/]+)", broken)[1]
+    return next((k for k, files in enumerate(SHOWN_FIRST) if file in files), len(SHOWN_FIRST))
+
+
+def by_definition(rows):
+    """What no longer holds, definition by definition, in how many of its edits: the figures first, at most four."""
+    print("| definition | edits | refused | accepted | what fails, in how many of them |\n|---|---|---|---|---|")
+    for name, of in grouped(rows, lambda t: f"`{t.crate}/{t.file[:-5]}`: `{t.name}`").items():
+        said = collections.Counter(b for t in of if t.verdict == REFUSED for b in t.by.split("; "))
+        shown = sorted(said, key=lambda b: (weight(b), -said[b]))[:4]
+        tried_, refused, _, accepted = counts(of)
+        print(f"| {name} | {tried_} | {refused} | {accepted} | " + "; ".join(f"{b.split('/', 1)[1]} ({said[b]})" for b in shown) + " |")
 
 
 def main():
@@ -197,7 +213,10 @@ def main():
     kind = Definitions if given.definitions else Code
     crates = given.crates or kind.crates
     if given.page:
-        page([t for folder in given.page for t in results(folder)])
+        rows = [t for folder in given.page for t in results(folder)]
+        (by_definition if given.definitions else table)(rows)
+        print()
+        listed([t for t in rows if t.verdict == ACCEPTED or not given.definitions])
     elif given.folder:
         try_all(kind, given.folder, crates, *map(int, given.part.split("/")))
     else:
