@@ -13,6 +13,9 @@ class Cost:
         self.runs = runs
         self.rests = rests
 
+    def __add__(self, other):
+        return Cost(self.runs + other.runs, self.rests + other.rests)
+
     def least(self):
         return min(self.runs) - min(self.rests)
 
@@ -32,12 +35,12 @@ def done(words, **more):
 
 
 class Clock:
-    """Nanoseconds of processor time. All works that are asked for at one size run in turn in one process, many times; and that in several processes,
-    since each lays its memory elsewhere."""
+    """Nanoseconds of processor time. All works that are asked for at one size run in turn in one process, several times. All sizes are gone through in
+    several rounds, since each process lays its memory elsewhere and the machine has better and worse moments."""
 
     unit = "ns"
     words = "nanoseconds on x86-64,"
-    processes = 4
+    rounds = 6
 
     def __init__(self, program):
         self.program = program
@@ -47,9 +50,8 @@ class Clock:
         done([self.program, "agree", str(size), work])
 
     def costs(self, size, works, turns):
-        """The cost of each work, from so many turns in all."""
-        words = [self.program, "clock", str(size), str(turns // self.processes), *works]
-        columns = list(zip(*[line for _ in range(self.processes) for line in self.lines(words)]))
+        """The cost of each work, from so many turns."""
+        columns = list(zip(*self.lines([self.program, "clock", str(size), str(turns), *works])))
         return {work: Cost(columns[2 * k], columns[2 * k + 1]) for k, work in enumerate(works)}
 
     @staticmethod
@@ -63,6 +65,7 @@ class Counter:
 
     unit = "instructions"
     words = "instructions of x86-64,"
+    rounds = 1
 
     def __init__(self, program, plugin):
         self.program = program
@@ -79,4 +82,4 @@ class Counter:
         self.emulated("agree", str(size), work)
 
     def costs(self, size, works, turns):
-        return {work: Cost([self.emulated("run", str(size), work)], [self.emulated("rest", str(size), work)]) for work in works}
+        return {work: Cost((self.emulated("run", str(size), work),), (self.emulated("rest", str(size), work),)) for work in works}

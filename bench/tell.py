@@ -16,7 +16,7 @@ WIDTHS = (16, 64, 128, 256)
 MORE_WIDTHS = (8, 32)
 GATES = (256, 512, 1024, 2048, 4096)
 CIRCUIT_WIDTH, CIRCUIT_GATES = 64, 200
-TURNS = {128: 20, 256: 28}
+TURNS = {128: 3, 256: 4}
 
 # each work, who does it beside Rattle, its name in the table and what its cost is told for
 BY_N = {
@@ -45,20 +45,27 @@ def asked(works):
     return [f"{name}:{who}" for name, row in works.items() for who in ("rattle", *row[0])]
 
 
-def measured(how):
-    """All costs, by size."""
-    by_n, by_gates = {}, {}
+def sizes():
+    """Each size, the works to measure there, and how many turns a round takes."""
     for n in WIDTHS:
-        how.check(n, "switch")
         more = asked({"circuit": CIRCUIT}) if n == CIRCUIT_WIDTH else []
-        by_n[n] = how.costs(n, asked(BY_N) + more, TURNS.get(n, 60))
+        yield n, asked(BY_N) + more, TURNS.get(n, 10)
     for n in MORE_WIDTHS:
-        how.check(n, "switch")
-        by_n[n] = how.costs(n, ["and:rattle", "xor:rattle", "not:rattle"], 60)
+        yield n, ["and:rattle", "xor:rattle", "not:rattle"], 10
     for gates in GATES:
-        how.check(gates, "plan")
-        by_gates[gates] = how.costs(gates, asked(BY_GATES), 60)
-    return by_n, by_gates
+        yield gates, asked(BY_GATES), 10
+
+
+def measured(how):
+    """All costs, by the work and its size."""
+    for size, works, _ in sizes():
+        how.check(size, works[0])
+    costs = {}
+    for _ in range(how.rounds):
+        for size, works, turns in sizes():
+            for work, cost in how.costs(size, works, turns).items():
+                costs[work, size] = costs[work, size] + cost if (work, size) in costs else cost
+    return costs
 
 
 def parts(name, size):
@@ -68,12 +75,13 @@ def parts(name, size):
     return {"tensor": size**2, "xor": 1, "not": 1, "circuit": CIRCUIT_GATES}.get(name, size**3)
 
 
-def held(name, costs):
+def held(name, size, costs):
     """The targets of a work, and whether all are met."""
-    ratios = [("", costs[f"{name}:rattle"].over(costs[f"{name}:{who}"]), most) for (work, who), most in TO_C.items() if work == name]
+    ours = costs[f"{name}:rattle", size]
+    ratios = [("", ours.over(costs[f"{name}:{who}", size]), most) for (work, who), most in TO_C.items() if work == name]
     if name in TO_WORK:
         other, words, most = TO_WORK[name]
-        ratio = costs[f"{name}:rattle"].over(costs[f"{other}:rattle"])
+        ratio = ours.over(costs[f"{other}:rattle", size])
         ratios.append((f"{ratio:.2f} of {words}, ", ratio, most))
     if not ratios:
         return ["", ""]
@@ -82,32 +90,41 @@ def held(name, costs):
     return [told, verdict(not over) + (" " + " and ".join(over) if over and len(ratios) > 1 else "")]
 
 
-def row(name, words, size, shown, costs, with_targets):
+def row(name, words, size, costs, with_targets):
     """One row of the table."""
     doers, what, unit = words
-    ours = costs[f"{name}:rattle"]
+    ours = costs[f"{name}:rattle", size]
     each = ours.least() / parts(name, size)
-    ratios = [f"{ours.over(costs[f'{name}:{who}']):.2f}" if who in doers else "-" for who in COLUMNS]
+    ratios = [f"{ours.over(costs[f'{name}:{who}', size]):.2f}" if who in doers else "-" for who in COLUMNS]
     figure = f"{each:.2f}" if each < 100 else f"{each:,.0f}"
-    return [what, shown, figure, unit] + ratios + (held(name, costs) if with_targets else [])
+    return [what, "-" if name in BY_GATES else str(size), figure, unit] + ratios + (held(name, size, costs) if with_targets else [])
 
 
-def tell(how, by_n, by_gates, as_markdown):
+def tell(how, costs, as_markdown):
     targets = isinstance(how, Clock)
-    rows = [row(name, words, n, str(n), by_n[n], targets) for name, words in BY_N.items() for n in WIDTHS]
-    rows.append(row("circuit", CIRCUIT, CIRCUIT_WIDTH, str(CIRCUIT_WIDTH), by_n[CIRCUIT_WIDTH], targets))
-    rows += [row(name, words, GATES[-1], "-", by_gates[GATES[-1]], targets) for name, words in BY_GATES.items()]
+    rows = [row(name, words, n, costs, targets) for name, words in BY_N.items() for n in WIDTHS]
+    rows.append(row("circuit", CIRCUIT, CIRCUIT_WIDTH, costs, targets))
+    rows += [row(name, words, GATES[-1], costs, targets) for name, words in BY_GATES.items()]
     head = ["work", "n", how.unit, "for each", "/ C, `__int128`", "/ same shape in C", "/ plain read"] + ["target", ""] * targets
     title = "Times: the least, and ratios of times" if targets else "Instructions executed, and their ratios"
     show(title, head, rows, as_markdown)
 
 
-def draw(how, by_n, by_gates, path):
-    """The plot of how cost grows."""
-    by_width = {name: {n: by_n[n][f"{name}:rattle"].least() for n in sorted(by_n)} for name in ("and", "xor", "not")}
-    by_count = {name: {g: by_gates[g][f"{name}:rattle"].least() for g in GATES} for name in BY_GATES}
-    with open(path, "w", encoding="utf-8") as file:
-        file.write(growth.drawing(by_width, by_count, how.words))
+def grown(costs):
+    """What a gate of each kind costs by n, and what planning and the file check cost by the gates."""
+    widths = sorted(WIDTHS + MORE_WIDTHS)
+    by_n = {name: {n: costs[f"{name}:rattle", n].least() for n in widths} for name in ("and", "xor", "not")}
+    by_gates = {name: {g: costs[f"{name}:rattle", g].least() for g in GATES} for name in BY_GATES}
+    return by_n, by_gates
+
+
+def tell_growth(how, by_n, by_gates, as_markdown):
+    """The figures of the plot: for a gate, and so that what does not grow with the gates shows."""
+    head = ["n"] + [str(n) for n in by_n["and"]]
+    show(f"A gate by n: {how.unit}", head, [[name.upper()] + [f"{x:,.0f}" for x in points.values()] for name, points in by_n.items()], as_markdown)
+    words = {"plan": "planning", "check": "file check"}
+    rows = [[words[name]] + [f"{x / gates:.1f}" for gates, x in points.items()] for name, points in by_gates.items()]
+    show(f"A circuit by its gates: {how.unit} a gate", ["gates"] + [f"{g:,}" for g in GATES], rows, as_markdown)
 
 
 def main():
@@ -118,10 +135,13 @@ def main():
     words.add_argument("--plot")
     given = words.parse_args()
     how = Counter(given.program, given.plugin) if given.plugin else Clock(given.program)
-    by_n, by_gates = measured(how)
-    tell(how, by_n, by_gates, given.markdown)
+    costs = measured(how)
+    tell(how, costs, given.markdown)
+    by_n, by_gates = grown(costs)
+    tell_growth(how, by_n, by_gates, given.markdown)
     if given.plot:
-        draw(how, by_n, by_gates, given.plot)
+        with open(given.plot, "w", encoding="utf-8") as file:
+            file.write(growth.drawing(by_n, by_gates, how.words))
 
 
 if __name__ == "__main__":
