@@ -7,11 +7,14 @@
 
 typedef uint64_t plugin_id;
 struct qemu_plugin_tb;
+struct qemu_plugin_insn;
+enum { ADD = 0 };
 
 void qemu_plugin_register_vcpu_tb_trans_cb(plugin_id id, void (*translated)(plugin_id, struct qemu_plugin_tb *));
-void qemu_plugin_register_vcpu_tb_exec_cb(struct qemu_plugin_tb *block, void (*executed)(unsigned, void *), int flags, void *data);
+void qemu_plugin_register_vcpu_insn_exec_inline(struct qemu_plugin_insn *instruction, int operation, void *number, uint64_t by);
 void qemu_plugin_register_atexit_cb(plugin_id id, void (*ended)(plugin_id, void *), void *data);
 size_t qemu_plugin_tb_n_insns(const struct qemu_plugin_tb *block);
+struct qemu_plugin_insn *qemu_plugin_tb_get_insn(const struct qemu_plugin_tb *block, size_t which);
 void qemu_plugin_outs(const char *text);
 
 int qemu_plugin_version = 1;
@@ -19,14 +22,11 @@ int qemu_plugin_install(plugin_id id, const void *info, int count, char **words)
 
 static uint64_t instructions;
 
-static void executed(unsigned processor, void *size) {
-    (void)processor;
-    instructions += (uintptr_t)size;
-}
-
+/* Each instruction by itself: a block's size also counts one that begins on its page and ends on the next, which belongs to the next block. */
 static void translated(plugin_id id, struct qemu_plugin_tb *block) {
     (void)id;
-    qemu_plugin_register_vcpu_tb_exec_cb(block, executed, 0, (void *)(uintptr_t)qemu_plugin_tb_n_insns(block));
+    for (size_t k = 0; k < qemu_plugin_tb_n_insns(block); k++)
+        qemu_plugin_register_vcpu_insn_exec_inline(qemu_plugin_tb_get_insn(block, k), ADD, &instructions, 1);
 }
 
 static void ended(plugin_id id, void *data) {
