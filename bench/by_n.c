@@ -168,26 +168,30 @@ static void one_and(unsigned which, enum who who, uint32_t times) {
     if (who != READ) evaluate_ands(who, 1);
 }
 
-static uint32_t xor_by(enum who who) {
+/* XOR and NOT go from one ciphertext to the next, so that the processor cannot learn by heart which way the branches go; all lie in the core's own
+   cache. */
+static const int64_t *cipher(uint64_t k) { return ours.wires + k % (65536 / n < WIRES ? 65536 / n : WIRES) * n; }
+
+static uint32_t xor_by(enum who who, uint64_t k) {
     const struct params p = low_limits();
-    if (who == RATTLE) return bench_xor(p.n, p.q, p.l, p.e, p.f, c, n, 1, d, n, 1, out, n);
-    return plain_xor(way(who), p, (struct cipher){c, n, 1}, (struct cipher){d, n, 1}, check, n);
+    if (who == RATTLE) return bench_xor(p.n, p.q, p.l, p.e, p.f, cipher(k), n, 1, cipher(k + 1), n, 1, out, n);
+    return plain_xor(way(who), p, (struct cipher){cipher(k), n, 1}, (struct cipher){cipher(k + 1), n, 1}, check, n);
 }
 
-static uint32_t not_by(enum who who) {
+static uint32_t not_by(enum who who, uint64_t k) {
     const struct params p = low_limits();
-    if (who == RATTLE) return bench_not(p.n, p.q, p.l, p.e, p.f, c, n, 1, out, n);
-    return plain_not(way(who), p, (struct cipher){c, n, 1}, check, n);
+    if (who == RATTLE) return bench_not(p.n, p.q, p.l, p.e, p.f, cipher(k), n, 1, out, n);
+    return plain_not(way(who), p, (struct cipher){cipher(k), n, 1}, check, n);
 }
 
 static void xored(unsigned which, enum who who, uint32_t times) {
     (void)which;
-    for (uint32_t k = 0; k < times; k++) xor_by(who);
+    for (uint32_t k = 0; k < times; k++) xor_by(who, k);
 }
 
 static void notted(unsigned which, enum who who, uint32_t times) {
     (void)which;
-    for (uint32_t k = 0; k < times; k++) not_by(who);
+    for (uint32_t k = 0; k < times; k++) not_by(who, k);
 }
 
 /* Sheet 4's q and limits. */
@@ -286,8 +290,8 @@ static int ands_agree(enum who who) {
 }
 
 static int ciphers_agree(enum who who) {
-    if (xor_by(RATTLE) != 0 || xor_by(who) != 0 || !same(out, check, n)) return 0;
-    return not_by(RATTLE) == 0 && not_by(who) == 0 && same(out, check, n);
+    if (xor_by(RATTLE, 0) != 0 || xor_by(who, 0) != 0 || !same(out, check, n)) return 0;
+    return not_by(RATTLE, 0) == 0 && not_by(who, 0) == 0 && same(out, check, n);
 }
 
 static int circuits_agree(enum who who) {
