@@ -1,5 +1,5 @@
 -- Whether a whole number lies in a range, by tests against both ends, and what that tells. Assumes nothing.
-use mathlib.Core.Path.{_≡_, refl, sym, _∙_}
+use mathlib.Core.Path.{_≡_, refl, sym}
 use mathlib.Core.Bool.{Bool, true, false, not, _&&_, and-true, and-false, and-eq-true-iff, true≢false}
 use Prim.Native.Nat.{ℕ, _≤_}
 use native.Mathlib.Omega.{arith}

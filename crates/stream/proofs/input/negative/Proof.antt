@@ -12,24 +12,15 @@ use Rattle.stream.proofs.input.negative.Tie as tie
 returns : tie.Need-returns
 returns c = ((refl, refl), (λ _. ap (λ (n : ℕ). negℤ (pos n)) (sym (c .if2 .taken)), λ e. absurd (true≢false e)))
 
-sub-t6 : tie.Need-sub-t6
-sub-t6 c = omega arith
-
-cast-t7 : tie.Need-cast-t7
-cast-t7 c = omega arith
-
 sub-t8 : tie.Need-sub-t8
 sub-t8 c = down-fits _ (c .before .if2 .left) (c .if3 .taken)
 
 returns-2 : tie.Need-returns-2
 returns-2 c = ((refl, refl), (λ _. down-is _ (c .before .if2 .left) (c .if3 .taken), λ e. absurd (true≢false e)))
 
-missing-requires : tie.Need-missing-requires
-missing-requires c κs = tt
-
 returns-3 : tie.Need-returns-3
 returns-3 c = (c .missing .ensures .0, (λ e. clash e (c .missing .ensures .1 .0), λ _. c .missing .ensures .1 .1))
 
 pub negative-spec : {M : Type 1} → statement M
 negative-spec =
-    tie.close (tie.spec returns sub-t6 cast-t7 sub-t8 returns-2 missing-requires returns-3)
+    tie.close (tie.spec returns (λ c. omega arith) (λ c. omega arith) sub-t8 returns-2 (λ c κs. tt) returns-3)

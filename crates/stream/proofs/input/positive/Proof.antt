@@ -8,17 +8,11 @@ use Rattle.stream.proofs.Signs.{clash}
 use Rattle.stream.proofs.input.positive.Statement.{statement}
 use Rattle.stream.proofs.input.positive.Tie as tie
 
-cast-t6 : tie.Need-cast-t6
-cast-t6 c = omega arith
-
 returns : tie.Need-returns
 returns c = ((refl, refl), (λ _. toZ-pos w64 (omega arith), λ e. absurd (true≢false e)))
-
-missing-requires : tie.Need-missing-requires
-missing-requires c κs = tt
 
 returns-2 : tie.Need-returns-2
 returns-2 c = (c .missing .ensures .0, (λ e. clash e (c .missing .ensures .1 .0), λ _. c .missing .ensures .1 .1))
 
 pub positive-spec : {M : Type 1} → statement M
-positive-spec = tie.close (tie.spec cast-t6 returns missing-requires returns-2)
+positive-spec = tie.close (tie.spec (λ c. omega arith) returns (λ c κs. tt) returns-2)
