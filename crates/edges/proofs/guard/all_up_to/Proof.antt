@@ -1,6 +1,6 @@
 -- `guard::all_up_to` tests every entry. The invariant: every entry passed is at most `most` in size. Leans on what `is_up_to` ensures. Assumes nothing.
 use mathlib.Core.Path.{_≡_, refl, sym, _∙_}
-use mathlib.Core.Bool.{Bool, true, false}
+use mathlib.Core.Bool.{true}
 use Prim.Native.Nat.{_≤_, _-_}
 use native.Mathlib.Omega.{arith}
 use lib.IntN.{ℤ, pos}
@@ -26,15 +26,6 @@ loop-holds : tie.Need-loop-holds Inv-loop μ-loop
 unfolding all
 loop-holds c = (omega arith, omega arith, refl)
 
-mul-is-up-to : tie.Need-mul-is-up-to Inv-loop μ-loop
-mul-is-up-to c = omega arith
-
-shared-slice-copy-out-is-up-to : tie.Need-shared-slice-copy-out-is-up-to Inv-loop μ-loop
-shared-slice-copy-out-is-up-to c = omega arith
-
-is-up-to-requires : tie.Need-is-up-to-requires Inv-loop μ-loop
-is-up-to-requires c κs = tt
-
 -- what was told of the entry of the turn
 abbrev entry : tie.After-is-up-to Inv-loop μ-loop → ℤ
 entry c = getD (c .before .before .before .before .args .xs .now) (c .before .before .before .loop .i) (pos 0)
@@ -47,12 +38,6 @@ returns c =
     let s = c .before .before .before .before in
     let told = simp (toZ-ofZ, fits (c .before)) at (sym (c .before .is-up-to .ensures)) in
     sym (all-less (isUpTo (s .before .args .most)) (s .before .args .xs .now) (s .loop .i) (omega arith) (told ∙ not-true _ (c .if1 .taken)))
-
-add-i : tie.Need-add-i Inv-loop μ-loop
-add-i c = omega arith
-
-loop-less : tie.Need-loop-less Inv-loop μ-loop
-loop-less c = omega arith
 
 loop-again : tie.Need-loop-again Inv-loop μ-loop
 loop-again c =
@@ -73,11 +58,11 @@ all-up-to-spec =
     Inv-loop
     μ-loop
     loop-holds
-    mul-is-up-to
-    shared-slice-copy-out-is-up-to
-    is-up-to-requires
+    (λ c. omega arith)
+    (λ c. omega arith)
+    (λ c κs. tt)
     returns
-    add-i
-    loop-less
+    (λ c. omega arith)
+    (λ c. omega arith)
     loop-again
     returns-2)

@@ -3,11 +3,8 @@ use borrow.Author.Needs.{needs}
 use Rattle.edges.proofs.guard.is_small.Statement.{statement}
 use Rattle.edges.proofs.guard.is_small.Tie as tie
 
-sum-of-sizes-requires : tie.Need-sum-of-sizes-requires
-sum-of-sizes-requires c κs = search needs
-
 returns : tie.Need-returns
 returns c = rw (c .sum-of-sizes .ensures)
 
 pub is-small-spec : {M : Type 1} → statement M
-is-small-spec = tie.close (tie.spec sum-of-sizes-requires returns)
+is-small-spec = tie.close (tie.spec (λ c κs. search needs) returns)

@@ -1,7 +1,7 @@
 -- `guard::narrow` puts the entries of `from` at the front of `to`, up to the first that is no number of 32 bits. The invariant: those passed are, and
 -- they stand there (`Put`). An entry is cast after the tests against both ends of 32 bits (`narrow-fits`). Assumes nothing.
-use mathlib.Core.Path.{_≡_, refl, sym, _∙_}
-use mathlib.Core.Bool.{Bool, true, false}
+use mathlib.Core.Path.{_≡_, refl, sym}
+use mathlib.Core.Bool.{true, false}
 use Prim.Native.Nat.{_≤_, _-_}
 use native.Mathlib.Omega.{arith}
 use lib.IntN.{ℤ, pos, negsuc}
@@ -28,12 +28,6 @@ abbrev μ-loop : tie.MeasureT-loop
 loop-holds : tie.Need-loop-holds Inv-loop μ-loop
 unfolding all
 loop-holds c = (omega arith, omega arith, put-none _ _, refl)
-
-mul-x : tie.Need-mul-x Inv-loop μ-loop
-mul-x c = omega arith
-
-shared-slice-copy-out-x : tie.Need-shared-slice-copy-out-x Inv-loop μ-loop
-shared-slice-copy-out-x c = omega arith
 
 -- the entry of the turn
 abbrev entry : tie.After-x Inv-loop μ-loop → ℤ
@@ -62,15 +56,9 @@ narrow c =
     let f = fits (c .before .before) in
     between (negsuc 2147483647) (pos 2147483647) _ (simp (toZ-ofZ, f) at (c .before .if1 .left)) (simp (toZ-ofZ, f) at (c .if2 .left))
 
-same-length : tie.Need-same-length Inv-loop μ-loop
-same-length c = omega arith
-
 returns : tie.Need-returns Inv-loop μ-loop
 returns c =
     stopped (c .before) (below (negsuc 2147483647) (pos 2147483647) _ (simp (toZ-ofZ, fits (c .before)) at (c .if1 .taken)))
-
-same-length-2 : tie.Need-same-length-2 Inv-loop μ-loop
-same-length-2 c = omega arith
 
 returns-2 : tie.Need-returns-2 Inv-loop μ-loop
 returns-2 c =
@@ -78,18 +66,6 @@ returns-2 c =
 
 cast-to : tie.Need-cast-to Inv-loop μ-loop
 cast-to c = simp (toZ-ofZ, fits (c .before .before)) (narrow-fits _ (narrow c))
-
-mul-t7 : tie.Need-mul-t7 Inv-loop μ-loop
-mul-t7 c = omega arith
-
-slice-set-from-to : tie.Need-slice-set-from-to Inv-loop μ-loop
-slice-set-from-to c = omega arith
-
-add-i : tie.Need-add-i Inv-loop μ-loop
-add-i c = omega arith
-
-loop-less : tie.Need-loop-less Inv-loop μ-loop
-loop-less c = omega arith
 
 loop-again : tie.Need-loop-again Inv-loop μ-loop
 loop-again c =
@@ -100,9 +76,6 @@ loop-again c =
       put-more (s .loop .inv .2) _ (pos 0) (omega arith) (omega arith) (simp (toZ-ofZ, fits (c .before .before), narrow-fits (entry (c .before .before)) (narrow c))),
       all-more isNarrow from (s .loop .i) (omega arith) (s .loop .inv .3) (narrow c),
     )
-
-same-length-3 : tie.Need-same-length-3 Inv-loop μ-loop
-same-length-3 c = omega arith
 
 returns-3 : tie.Need-returns-3 Inv-loop μ-loop
 returns-3 c =
@@ -117,17 +90,17 @@ narrow-spec =
     Inv-loop
     μ-loop
     loop-holds
-    mul-x
-    shared-slice-copy-out-x
-    same-length
+    (λ c. omega arith)
+    (λ c. omega arith)
+    (λ c. omega arith)
     returns
-    same-length-2
+    (λ c. omega arith)
     returns-2
     cast-to
-    mul-t7
-    slice-set-from-to
-    add-i
-    loop-less
+    (λ c. omega arith)
+    (λ c. omega arith)
+    (λ c. omega arith)
+    (λ c. omega arith)
     loop-again
-    same-length-3
+    (λ c. omega arith)
     returns-3)
