@@ -19,32 +19,11 @@ Inv-loop call at out₀ xs i₀ i-end out i = (i-end ≡ length xs) × (i ≤ i-
 abbrev μ-loop : tie.MeasureT-loop
 μ-loop call at out₀ xs i₀ i-end out i = i-end - i
 
-list-requires : tie.Need-list-requires Inv-loop μ-loop
-list-requires c κs = tt
-
 returns : tie.Need-returns Inv-loop μ-loop
 returns c = rw (← c .before .list .ensures) (took-none _ _ (omega arith))
 
 loop-holds : tie.Need-loop-holds Inv-loop μ-loop
 loop-holds c = (omega arith, omega arith, omega arith, put-none _ _)
-
-mul-out : tie.Need-mul-out Inv-loop μ-loop
-mul-out c = omega arith
-
-shared-slice-copy-out-out : tie.Need-shared-slice-copy-out-out Inv-loop μ-loop
-shared-slice-copy-out-out c = omega arith
-
-mul-t14 : tie.Need-mul-t14 Inv-loop μ-loop
-mul-t14 c = omega arith
-
-slice-set-from-out : tie.Need-slice-set-from-out Inv-loop μ-loop
-slice-set-from-out c = omega arith
-
-add-i : tie.Need-add-i Inv-loop μ-loop
-add-i c = omega arith
-
-loop-less : tie.Need-loop-less Inv-loop μ-loop
-loop-less c = omega arith
 
 loop-again : tie.Need-loop-again Inv-loop μ-loop
 loop-again c =
@@ -52,9 +31,6 @@ loop-again c =
     let xs = s .before .before .list .result .now in
     let f = sfits-of {w = w64} {z = getD xs (s .loop .i) (pos 0)} (c .out .given) in
     (omega arith, omega arith, omega arith, put-more (s .loop .inv .3) _ (pos 0) (omega arith) (omega arith) (simp (toZ-ofZ, f)))
-
-same-length : tie.Need-same-length Inv-loop μ-loop
-same-length c = omega arith
 
 returns-2 : tie.Need-returns-2 Inv-loop μ-loop
 returns-2 c =
@@ -67,15 +43,15 @@ buffer-spec =
     (tie.spec
     Inv-loop
     μ-loop
-    list-requires
+    (λ c κs. tt)
     returns
     loop-holds
-    mul-out
-    shared-slice-copy-out-out
-    mul-t14
-    slice-set-from-out
-    add-i
-    loop-less
+    (λ c. omega arith)
+    (λ c. omega arith)
+    (λ c. omega arith)
+    (λ c. omega arith)
+    (λ c. omega arith)
+    (λ c. omega arith)
     loop-again
-    same-length
+    (λ c. omega arith)
     returns-2)

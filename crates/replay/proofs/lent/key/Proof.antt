@@ -21,35 +21,11 @@ Inv-loop call at out₀ xs i₀ i-end out i = (i-end ≡ length xs) × (i ≤ i-
 abbrev μ-loop : tie.MeasureT-loop
 μ-loop call at out₀ xs i₀ i-end out i = i-end - i
 
-list-requires : tie.Need-list-requires Inv-loop μ-loop
-list-requires c κs = tt
-
 returns : tie.Need-returns Inv-loop μ-loop
 returns c = rw (← c .before .list .ensures) (none-mapped narrow (c .before .list .result .now) _ (omega arith))
 
 loop-holds : tie.Need-loop-holds Inv-loop μ-loop
 loop-holds c = (omega arith, omega arith, omega arith, put-none _ _)
-
-mul-narrow : tie.Need-mul-narrow Inv-loop μ-loop
-mul-narrow c = omega arith
-
-shared-slice-copy-out-narrow : tie.Need-shared-slice-copy-out-narrow Inv-loop μ-loop
-shared-slice-copy-out-narrow c = omega arith
-
-narrow-requires : tie.Need-narrow-requires Inv-loop μ-loop
-narrow-requires c κs = tt
-
-mul-t15 : tie.Need-mul-t15 Inv-loop μ-loop
-mul-t15 c = omega arith
-
-slice-set-from-out : tie.Need-slice-set-from-out Inv-loop μ-loop
-slice-set-from-out c = omega arith
-
-add-i : tie.Need-add-i Inv-loop μ-loop
-add-i c = omega arith
-
-loop-less : tie.Need-loop-less Inv-loop μ-loop
-loop-less c = omega arith
 
 loop-again : tie.Need-loop-again Inv-loop μ-loop
 loop-again c =
@@ -59,9 +35,6 @@ loop-again c =
     let g = sfits-of {w = w32} {z = c .narrow .result} (c .narrow .ok) in
     let e = simp (toZ-ofZ, f) at (c .narrow .ensures) in
     (omega arith, omega arith, omega arith, more-mapped narrow xs (s .loop .inv .3) _ (pos 0) (omega arith) (omega arith) (simp (toZ-ofZ, g) e))
-
-same-length : tie.Need-same-length Inv-loop μ-loop
-same-length c = omega arith
 
 returns-2 : tie.Need-returns-2 Inv-loop μ-loop
 returns-2 c =
@@ -74,16 +47,16 @@ key-spec =
     (tie.spec
     Inv-loop
     μ-loop
-    list-requires
+    (λ c κs. tt)
     returns
     loop-holds
-    mul-narrow
-    shared-slice-copy-out-narrow
-    narrow-requires
-    mul-t15
-    slice-set-from-out
-    add-i
-    loop-less
+    (λ c. omega arith)
+    (λ c. omega arith)
+    (λ c κs. tt)
+    (λ c. omega arith)
+    (λ c. omega arith)
+    (λ c. omega arith)
+    (λ c. omega arith)
     loop-again
-    same-length
+    (λ c. omega arith)
     returns-2)

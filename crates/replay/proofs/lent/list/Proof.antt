@@ -15,33 +15,6 @@ counted c =
     let f = sfits-of {w = w64} {z = c .before .number .result} (c .before .number .ok) in
     rw (c .before .number .ensures) at (simp (toZ-ofZ, f) at (c .count .ensures))
 
-number-requires : tie.Need-number-requires
-number-requires c κs = search needs
-
-count-requires : tie.Need-count-requires
-count-requires c κs = search needs
-
-next-requires : tie.Need-next-requires
-next-requires c κs = search needs
-
-sub-if1 : tie.Need-sub-if1
-sub-if1 c = search needs
-
-add-end : tie.Need-add-end
-add-end c = search needs
-
-mul-result : tie.Need-mul-result
-mul-result c = search needs
-
-sub-result : tie.Need-sub-result
-sub-result c = search needs
-
-part-result-start : tie.Need-part-result-start
-part-result-start c = search needs
-
-part-result-end : tie.Need-part-result-end
-part-result-end c = search needs
-
 returns : tie.Need-returns
 returns c =
     let a = c .before .before .before .before .before .args in
@@ -49,15 +22,6 @@ returns c =
     let n : ℕ = c .before .before .before .count .result in
     let e : from + n - from ≡ n = omega arith in
     rw (e, counted (c .before .before .before), c .before .before .next .ensures) (list-within (a .call .now) (a .at) (omega (arith, counted (c .before .before .before))))
-
-sub-result-2 : tie.Need-sub-result-2
-sub-result-2 c = search needs
-
-part-result-start-2 : tie.Need-part-result-start-2
-part-result-start-2 c = search needs
-
-part-result-end-2 : tie.Need-part-result-end-2
-part-result-end-2 c = search needs
 
 returns-2 : tie.Need-returns-2
 returns-2 c =
@@ -68,17 +32,17 @@ pub list-spec : {M : Type 1} → statement M
 list-spec =
     tie.close
     (tie.spec
-    number-requires
-    count-requires
-    next-requires
-    sub-if1
-    add-end
-    mul-result
-    sub-result
-    part-result-start
-    part-result-end
+    (λ c κs. search needs)
+    (λ c κs. search needs)
+    (λ c κs. search needs)
+    (λ c. search needs)
+    (λ c. search needs)
+    (λ c. search needs)
+    (λ c. search needs)
+    (λ c. search needs)
+    (λ c. search needs)
     returns
-    sub-result-2
-    part-result-start-2
-    part-result-end-2
+    (λ c. search needs)
+    (λ c. search needs)
+    (λ c. search needs)
     returns-2)

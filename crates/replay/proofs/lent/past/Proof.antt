@@ -14,21 +14,6 @@ counted c =
     let f = sfits-of {w = w64} {z = c .before .number .result} (c .before .number .ok) in
     rw (c .before .number .ensures) at (simp (toZ-ofZ, f) at (c .count .ensures))
 
-number-requires : tie.Need-number-requires
-number-requires c κs = search needs
-
-count-requires : tie.Need-count-requires
-count-requires c κs = search needs
-
-next-requires : tie.Need-next-requires
-next-requires c κs = search needs
-
-sub-if1 : tie.Need-sub-if1
-sub-if1 c = search needs
-
-add-result : tie.Need-add-result
-add-result c = search needs
-
 returns : tie.Need-returns
 returns c = omega (arith, counted (c .before .before))
 
@@ -38,4 +23,4 @@ returns-2 c = omega (arith, counted (c .before .before))
 pub past-spec : {M : Type 1} → statement M
 past-spec =
     tie.close
-    (tie.spec number-requires count-requires next-requires sub-if1 add-result returns returns-2)
+    (tie.spec (λ c κs. search needs) (λ c κs. search needs) (λ c κs. search needs) (λ c. search needs) (λ c. search needs) returns returns-2)

@@ -5,16 +5,10 @@ use borrow.Author.Needs.{needs, sfits-of}
 use Rattle.replay.proofs.lent.word.Statement.{statement}
 use Rattle.replay.proofs.lent.word.Tie as tie
 
-number-requires : tie.Need-number-requires
-number-requires c κs = search needs
-
-word-requires : tie.Need-word-requires
-word-requires c κs = search needs
-
 returns : tie.Need-returns
 returns c =
     let f = sfits-of {w = w64} {z = c .before .number .result} (c .before .number .ok) in
     rw (c .before .number .ensures) at (simp (toZ-ofZ, f) at (c .word .ensures))
 
 pub word-spec : {M : Type 1} → statement M
-word-spec = tie.close (tie.spec number-requires word-requires returns)
+word-spec = tie.close (tie.spec (λ c κs. search needs) (λ c κs. search needs) returns)

@@ -21,35 +21,11 @@ Inv-loop call at out₀ xs i₀ i-end out i = (i-end ≡ length xs) × (i ≤ i-
 abbrev μ-loop : tie.MeasureT-loop
 μ-loop call at out₀ xs i₀ i-end out i = i-end - i
 
-list-requires : tie.Need-list-requires Inv-loop μ-loop
-list-requires c κs = tt
-
 returns : tie.Need-returns Inv-loop μ-loop
 returns c = rw (← c .before .list .ensures) (none-mapped word (c .before .list .result .now) _ (omega arith))
 
 loop-holds : tie.Need-loop-holds Inv-loop μ-loop
 loop-holds c = (omega arith, omega arith, omega arith, put-none _ _)
-
-mul-word : tie.Need-mul-word Inv-loop μ-loop
-mul-word c = omega arith
-
-shared-slice-copy-out-word : tie.Need-shared-slice-copy-out-word Inv-loop μ-loop
-shared-slice-copy-out-word c = omega arith
-
-word-requires : tie.Need-word-requires Inv-loop μ-loop
-word-requires c κs = tt
-
-mul-out : tie.Need-mul-out Inv-loop μ-loop
-mul-out c = omega arith
-
-slice-write-out : tie.Need-slice-write-out Inv-loop μ-loop
-slice-write-out c = omega arith
-
-add-i : tie.Need-add-i Inv-loop μ-loop
-add-i c = omega arith
-
-loop-less : tie.Need-loop-less Inv-loop μ-loop
-loop-less c = omega arith
 
 loop-again : tie.Need-loop-again Inv-loop μ-loop
 loop-again c =
@@ -57,9 +33,6 @@ loop-again c =
     let xs = s .before .before .list .result .now in
     let f = sfits-of {w = w64} {z = getD xs (s .loop .i) (pos 0)} (c .before .word-arg .given) in
     (omega arith, omega arith, omega arith, more-mapped word xs (s .loop .inv .3) _ (pos 0) (omega arith) (omega arith) (simp (toZ-ofZ, f) at (c .word .ensures)))
-
-same-length : tie.Need-same-length Inv-loop μ-loop
-same-length c = omega arith
 
 returns-2 : tie.Need-returns-2 Inv-loop μ-loop
 returns-2 c =
@@ -72,16 +45,16 @@ words-spec =
     (tie.spec
     Inv-loop
     μ-loop
-    list-requires
+    (λ c κs. tt)
     returns
     loop-holds
-    mul-word
-    shared-slice-copy-out-word
-    word-requires
-    mul-out
-    slice-write-out
-    add-i
-    loop-less
+    (λ c. omega arith)
+    (λ c. omega arith)
+    (λ c κs. tt)
+    (λ c. omega arith)
+    (λ c. omega arith)
+    (λ c. omega arith)
+    (λ c. omega arith)
     loop-again
-    same-length
+    (λ c. omega arith)
     returns-2)

@@ -25,41 +25,11 @@ loop-holds c = (omega arith, omega arith, λ h. absurd (omega arith))
 loop2-holds : tie.Need-loop2-holds Inv-loop2 μ-loop2 Inv-loop μ-loop
 loop2-holds c = (omega arith, omega arith, omega arith, λ h. c .before .loop .inv .2 (omega arith))
 
-mul-put : tie.Need-mul-put Inv-loop2 μ-loop2 Inv-loop μ-loop
-mul-put c = omega arith
-
-mul-put-2 : tie.Need-mul-put-2 Inv-loop2 μ-loop2 Inv-loop μ-loop
-mul-put-2 c = omega arith
-
-index-1-put : tie.Need-index-1-put Inv-loop2 μ-loop2 Inv-loop μ-loop
-index-1-put c = omega arith
-
-index-2-put : tie.Need-index-2-put Inv-loop2 μ-loop2 Inv-loop μ-loop
-index-2-put c = omega arith
-
-put-requires : tie.Need-put-requires Inv-loop2 μ-loop2 Inv-loop μ-loop
-put-requires c κs = tt
-
-add-j : tie.Need-add-j Inv-loop2 μ-loop2 Inv-loop μ-loop
-add-j c = omega arith
-
-loop2-less : tie.Need-loop2-less Inv-loop2 μ-loop2 Inv-loop μ-loop
-loop2-less c = omega arith
-
 loop2-again : tie.Need-loop2-again Inv-loop2 μ-loop2 Inv-loop μ-loop
 loop2-again c = (omega arith, omega arith, omega arith, λ h. omega arith)
 
-add-i : tie.Need-add-i Inv-loop2 μ-loop2 Inv-loop μ-loop
-add-i c = omega arith
-
-loop-less : tie.Need-loop-less Inv-loop2 μ-loop2 Inv-loop μ-loop
-loop-less c = omega arith
-
 loop-again : tie.Need-loop-again Inv-loop2 μ-loop2 Inv-loop μ-loop
 loop-again c = (omega arith, omega arith, λ h. c .before .loop2 .inv .3 (omega arith))
-
-same-length : tie.Need-same-length Inv-loop2 μ-loop2 Inv-loop μ-loop
-same-length c = omega arith
 
 returns : tie.Need-returns Inv-loop2 μ-loop2 Inv-loop μ-loop
 returns c = (c .before .loop .inv .2 (omega arith), omega arith)
@@ -74,16 +44,16 @@ rows-spec =
     μ-loop
     loop-holds
     loop2-holds
-    mul-put
-    mul-put-2
-    index-1-put
-    index-2-put
-    put-requires
-    add-j
-    loop2-less
+    (λ c. omega arith)
+    (λ c. omega arith)
+    (λ c. omega arith)
+    (λ c. omega arith)
+    (λ c κs. tt)
+    (λ c. omega arith)
+    (λ c. omega arith)
     loop2-again
-    add-i
-    loop-less
+    (λ c. omega arith)
+    (λ c. omega arith)
     loop-again
-    same-length
+    (λ c. omega arith)
     returns)

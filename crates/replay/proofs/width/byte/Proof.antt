@@ -11,17 +11,11 @@ use Rattle.replay.proofs.width.byte.Tie as tie
 widened : (c : tie.After-word) → c .word .result ≡ word (c .before .args .x)
 widened c = simp (toZ-ofZ, c .before .fits .x) at (c .word .ensures)
 
-word-requires : tie.Need-word-requires
-word-requires c κs = search needs
-
 returns : tie.Need-returns
 returns c = sym (byte-over (c .before .before .args .x) (omega (arith, widened (c .before))))
-
-cast-result : tie.Need-cast-result
-cast-result c = search needs
 
 returns-2 : tie.Need-returns-2
 returns-2 c = widened (c .before) ∙ sym (byte-within (c .before .before .args .x) (omega (arith, widened (c .before))))
 
 pub byte-spec : {M : Type 1} → statement M
-byte-spec = tie.close (tie.spec word-requires returns cast-result returns-2)
+byte-spec = tie.close (tie.spec (λ c κs. search needs) returns (λ c. search needs) returns-2)

@@ -4,14 +4,8 @@ use borrow.Author.Needs.{needs}
 use Rattle.replay.proofs.width.count.Statement.{statement}
 use Rattle.replay.proofs.width.count.Tie as tie
 
-word-requires : tie.Need-word-requires
-word-requires c κs = search needs
-
-cast-result : tie.Need-cast-result
-cast-result c = search needs
-
 returns : tie.Need-returns
 returns c = simp (toZ-ofZ, c .before .fits .x) at (c .word .ensures)
 
 pub count-spec : {M : Type 1} → statement M
-count-spec = tie.close (tie.spec word-requires cast-result returns)
+count-spec = tie.close (tie.spec (λ c κs. search needs) (λ c. search needs) returns)
