@@ -55,10 +55,14 @@ const struct arithmetic straight = {range_straight, sum_straight, tensor_straigh
 /* ---- in the same shape */
 
 static int range_shape(const int64_t *xs, uint64_t count, int64_t modulus) {
-    const uint64_t room = (1ull << 63) - (uint64_t)modulus / 2;
-    uint64_t beyond = 0;
-    for (uint64_t j = 0; j < count; j++) beyond += ((uint64_t)(xs[j] ^ (xs[j] >> 63)) + room) >> 63;
-    return beyond == 0;
+    const uint64_t half = (uint64_t)modulus / 2, top = 1ull << 63;
+    uint64_t some = 0, each = UINT64_MAX;
+    for (uint64_t j = 0; j < count; j++) {
+        const uint64_t raised = (uint64_t)xs[j] + half;
+        some |= raised;
+        each &= raised - 2 * half;
+    }
+    return some < top && top <= each;
 }
 
 static void sum_shape(int64_t q, const int64_t *c, const int64_t *d, int64_t *out, uint64_t n) {
