@@ -2,7 +2,8 @@
 """A mutation audit: makes small wrong edits, one operand or operator at a time, has the prover try each, and lists those that it still accepts.
 
     python3 tools/audit.py --list [CRATE...]                       prints the edits, one line each
-    python3 tools/audit.py --try FOLDER [--part K/N] [CRATE...]    tries them in a copy of the repository at FOLDER, which it makes where there is none
+    python3 tools/audit.py --try FOLDER [--each N] [CRATE...]      tries them, or N of each function, in a copy of the repository at FOLDER, which it makes
+                                                                   where there is none; what was tried there before is not tried again
     python3 tools/audit.py --page FOLDER...                        the tables of docs/AUDIT.md, from what was tried in those folders
 
 With --definitions the edits are of the definitions that docs/DEFINITIONS.md names, and else of every function of the engine's crates.
@@ -128,8 +129,14 @@ def tried(kind, folder, edit):
     return Tried(edit.crate, edit.file, str(edit.line), edit.name, edit.old, edit.new, *verdict)
 
 
-def try_all(kind, folder, crates, part, parts):
-    """Tries each edit of its part that was not tried before, and keeps the results in the folder."""
+def spread(edits, each):
+    """Of the edits of each function or definition so many, spread over its text; all where each is 0."""
+    for of in grouped(edits, lambda e: (e.file, e.name)).values():
+        yield from (of[k * len(of) // each] for k in range(each)) if 0 < each < len(of) else of
+
+
+def try_all(kind, folder, crates, each):
+    """Tries the edits that were not tried before, and keeps the results in the folder."""
     if not folder.exists():
         kind.copied(folder)
     path = folder / RESULTS
@@ -138,8 +145,8 @@ def try_all(kind, folder, crates, part, parts):
     for crate in crates:
         if not kind.is_ready(folder, crate):
             sys.exit(f"audit: {crate} is not proved before any edit")
-        for number, edit in enumerate(list(kind.edits(folder, crate))):
-            if number % parts == part and (edit.crate, edit.file, str(edit.line), edit.name, edit.old, edit.new) not in known:
+        for edit in spread(list(kind.edits(folder, crate)), each):
+            if (edit.crate, edit.file, str(edit.line), edit.name, edit.old, edit.new) not in known:
                 done = tried(kind, folder, edit)
                 with path.open("a", encoding="utf-8") as file:
                     file.write("\t".join(done) + "\n")
@@ -207,7 +214,7 @@ def main():
     parser.add_argument("--definitions", action="store_true")
     parser.add_argument("--try", dest="folder", type=pathlib.Path)
     parser.add_argument("--page", nargs="+", type=pathlib.Path)
-    parser.add_argument("--part", default="0/1")
+    parser.add_argument("--each", type=int, default=0)
     parser.add_argument("crates", nargs="*")
     given = parser.parse_args()
     kind = Definitions if given.definitions else Code
@@ -218,7 +225,7 @@ def main():
         print()
         listed([t for t in rows if t.verdict == ACCEPTED or not given.definitions])
     elif given.folder:
-        try_all(kind, given.folder, crates, *map(int, given.part.split("/")))
+        try_all(kind, given.folder, crates, given.each)
     else:
         for edit in (e for crate in crates for e in kind.edits(ROOT, crate)):
             print(told(edit))

@@ -11,7 +11,7 @@ use borrow.Author.Tests.{ltb-false, leb-true, not-false, not-true}
 use Rattle.whole.specs.Tests.{and-left, and-right, or-right}
 use Rattle.whole.specs.Lists.{nil, cons, length-tabulate}
 use Rattle.refusal.specs.declared.Refusal.{Refusal}
-use Rattle.refusal.specs.First.{Row, firstOf, firstTrue, Clear, first-front, first-rest, first-zero, first-each, first-within}
+use Rattle.refusal.specs.First.{Row, row, First, first-given, firstOf, firstTrue, Clear, first-front, first-rest, first-zero, first-each, first-within}
 use Rattle.refusal.specs.Parameters.{refused, within, InRange}
 use Rattle.scheme.specs.Calls.{badParams, differs}
 use Rattle.scheme.specs.Passed.{params-in-range, length-is}
@@ -59,6 +59,21 @@ module _ (file : List ℕ) where
   head-clear : firstOf (headRows file) ≡ 0 → Clear (headRows file)
   unfolding headRows
   head-clear e = first-zero (cons (omega arith) (cons (omega arith) (cons (omega arith) (cons (omega arith) (cons (omega arith) nil))))) e
+
+  -- the number is that of the first row that applies in the file's own order, and 0 exactly when none does
+  pub check-first : First (headRows file ++ fileGateRows file) (checkNumber file)
+  unfolding checkNumber headRows fileGateRows gateRows
+  check-first =
+      first-given
+      (cons (omega arith) (cons (omega arith) (cons (omega arith) (cons (omega arith) (cons (omega arith) (cons (omega arith) (cons (omega arith) nil)))))))
+
+  -- in planning, with 3 for the buffer's length behind the head
+  pub plan-first : (buffer : List ℕ) → First (headRows file ++ (row 3 (otherLength file buffer) ∷ fileGateRows file)) (planNumber file buffer)
+  unfolding planNumber headRows fileGateRows gateRows
+  plan-first buffer =
+      first-given
+      (cons (omega arith)
+      (cons (omega arith) (cons (omega arith) (cons (omega arith) (cons (omega arith) (cons (omega arith) (cons (omega arith) (cons (omega arith) nil))))))))
 
   pub head-right : firstOf (headRows file) ≡ 0 → HeadRight file
   unfolding headRows
