@@ -1,5 +1,5 @@
 -- What the run-time tests tell: of a test that was denied twice, of a product of small numbers, and of the front of a list. Assumes nothing.
-use mathlib.Core.Path.{_≡_, refl}
+use mathlib.Core.Path.{_≡_, sym, _∙_}
 use mathlib.Core.Bool.{Bool, true, false, not}
 use mathlib.Core.List.{List}
 use Prim.Native.Nat.{ℕ, _*_, _-_, _≤_}
@@ -9,13 +9,12 @@ use lib.IntN.{ℤ}
 use lib.ListN.{length, take, length-take}
 use mir.Syntax.{w64}
 use mir.Val.{Fits}
-use Rattle.whole.specs.Tests.{clash}
+use borrow.Author.Tests.{not-false}
 use Rattle.stream.specs.Bounds.{Counts}
 
--- a test passed, where `if !test { return .. }` went on
-pub passed : (test : Bool) → not test ≡ false → test ≡ true
-passed true e = refl
-passed false e = clash refl e
+-- the test that was asked is true, where `if !asked { return .. }` went on
+pub passed : {asked test : Bool} → asked ≡ test → not asked ≡ false → test ≡ true
+passed {asked} e h = sym e ∙ not-false asked h
 
 -- a product of two numbers of at most 2^20
 pub product-fits : {a b : ℕ} → a ≤ 1048576 → b ≤ 1048576 → Fits w64 (a * b)

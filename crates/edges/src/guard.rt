@@ -16,10 +16,7 @@ pub fn modulus(q: i64) -> u32
     ensures { λ r. ⌜ r ≡ asModulus q ⌝ }
     ensures { λ r. ⌜ (0 < r → Modulus r) ⌝ }
 {
-    if q < 1 {
-        return 0;
-    }
-    if 1048576 < q {
+    if !stream::is_inside(1, 1048576, q) {
         return 0;
     }
     let m = q as u32;
@@ -33,13 +30,10 @@ pub fn modulus(q: i64) -> u32
 pub fn count(x: i64) -> usize
     ensures { λ r. ⌜ r ≡ asCount x ⌝ }
 {
-    if x < 0 {
-        return 65537;
+    if stream::is_inside(0, 65536, x) {
+        return x as usize;
     }
-    if 65536 < x {
-        return 65537;
-    }
-    x as usize
+    65537
 }
 
 // Whether x is at most `most` in size.
@@ -81,10 +75,7 @@ pub fn narrow(from: &[i64], to: &mut [i32]) -> bool
 {
     for i in 0..from.len() {
         let x = from[i];
-        if x < -2147483648 {
-            return false;
-        }
-        if 2147483647 < x {
+        if !stream::is_inside(-2147483648, 2147483647, x) {
             return false;
         }
         to[i] = x as i32;

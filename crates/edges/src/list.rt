@@ -104,10 +104,7 @@ pub fn big_residues(q: u32, xs: &[i64], text: &mut [u8], at: usize) -> usize
 pub fn within(limit: i64, xs: &[i64], text: &mut [u8], at: usize) -> usize
     ensures { λ r. ⌜ Placed r (now (text .entry)) (now (text .exit)) ⌝ }
 {
-    if limit < 0 {
-        return print::refused(text, at);
-    }
-    if 4294967295 < limit {
+    if !stream::is_inside(0, 4294967295, limit) {
         return print::refused(text, at);
     }
     print::bit(text, at, all_within(xs, limit as u32))

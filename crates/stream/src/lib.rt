@@ -3,6 +3,7 @@
 // `requires`: any cursor, any position and any block will do.
 mod input;
 mod output;
+mod range;
 
 pub use input::Cursor;
 pub use input::Taken;
@@ -14,3 +15,4 @@ pub use output::end_line;
 pub use output::flush;
 pub use output::put;
 pub use output::word;
+pub use range::is_inside;

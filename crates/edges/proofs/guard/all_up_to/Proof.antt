@@ -9,10 +9,9 @@ use mir.Facts.{toZ-ofZ}
 use mir.Syntax.{w64}
 use mir.Val.{SFits}
 use borrow.Author.Needs.{sfits-of}
-use borrow.Author.Tests.{not-true}
+use borrow.Author.Tests.{not-true, not-false}
 use Rattle.whole.specs.Lists.{all}
 use Rattle.edges.specs.Guard.{isUpTo, all-more, all-less, all-passed}
-use Rattle.edges.proofs.Ranges.{passed}
 use Rattle.edges.proofs.guard.all_up_to.Statement.{statement}
 use Rattle.edges.proofs.guard.all_up_to.Tie as tie
 
@@ -45,7 +44,7 @@ loop-again c =
     let told = simp (toZ-ofZ, fits (c .before)) at (sym (c .before .is-up-to .ensures)) in (
       omega arith,
       omega arith,
-      all-more (isUpTo (s .before .args .most)) (s .before .args .xs .now) (s .loop .i) (omega arith) (s .loop .inv .2) (told ∙ passed _ (c .if1 .left)),
+      all-more (isUpTo (s .before .args .most)) (s .before .args .xs .now) (s .loop .i) (omega arith) (s .loop .inv .2) (told ∙ not-false _ (c .if1 .left)),
     )
 
 returns-2 : tie.Need-returns-2 Inv-loop μ-loop

@@ -1,19 +1,20 @@
 -- `guard::narrow` puts the entries of `from` at the front of `to`, up to the first that is no number of 32 bits. The invariant: those passed are, and
--- they stand there (`Put`). An entry is cast after the tests against both ends of 32 bits (`narrow-fits`). Assumes nothing.
-use mathlib.Core.Path.{_≡_, refl, sym}
-use mathlib.Core.Bool.{true, false}
+-- they stand there (`Put`). An entry is cast after the test against both ends of 32 bits (`narrow-fits`). Assumes nothing.
+use mathlib.Core.Path.{_≡_, refl, sym, _∙_}
+use mathlib.Core.Bool.{Bool, true, false}
 use Prim.Native.Nat.{_≤_, _-_}
 use native.Mathlib.Omega.{arith}
-use lib.IntN.{ℤ, pos, negsuc}
+use lib.IntN.{ℤ, pos}
 use lib.ListN.{getD, length, take}
 use mir.Facts.{toZ-ofZ}
 use mir.Syntax.{w64}
 use mir.Val.{SFits}
 use borrow.Author.Needs.{sfits-of}
+use borrow.Author.Tests.{not-true, not-false}
 use Rattle.whole.specs.Lists.{all}
 use Rattle.stream.specs.Bounds.{Counts}
 use Rattle.stream.specs.Front.{front, Put, put-none, put-more, put-all}
-use Rattle.stream.specs.Ranges.{isNarrow, below, above, between, narrow-fits}
+use Rattle.stream.specs.Ranges.{isNarrow, narrow-fits}
 use Rattle.edges.specs.Guard.{leading, all-more, all-less, all-passed, leading-less, leading-all}
 use Rattle.edges.proofs.Ranges.{counts}
 use Rattle.edges.proofs.guard.narrow.Statement.{statement}
@@ -51,18 +52,15 @@ stopped c e =
       (rw (leading-less isNarrow from (s .loop .i) (omega arith) (s .loop .inv .3) e) (s .loop .inv .2 .so-far), counts _ _ (omega (arith, s .loop .inv .2 .kept))),
     )
 
-narrow : (c : tie.Else2 Inv-loop μ-loop) → isNarrow (entry (c .before .before)) ≡ true
-narrow c =
-    let f = fits (c .before .before) in
-    between (negsuc 2147483647) (pos 2147483647) _ (simp (toZ-ofZ, f) at (c .before .if1 .left)) (simp (toZ-ofZ, f) at (c .if2 .left))
+-- what the test of an entry answered
+tested : (c : tie.After-is-inside Inv-loop μ-loop) {t : Bool} → c .is-inside .result ≡ t → isNarrow (entry (c .before)) ≡ t
+tested c e = sym (simp (toZ-ofZ, fits (c .before)) at (c .is-inside .ensures)) ∙ e
+
+narrow : (c : tie.Else1 Inv-loop μ-loop) → isNarrow (entry (c .before .before)) ≡ true
+narrow c = tested (c .before) (not-false _ (c .if1 .left))
 
 returns : tie.Need-returns Inv-loop μ-loop
-returns c =
-    stopped (c .before) (below (negsuc 2147483647) (pos 2147483647) _ (simp (toZ-ofZ, fits (c .before)) at (c .if1 .taken)))
-
-returns-2 : tie.Need-returns-2 Inv-loop μ-loop
-returns-2 c =
-    stopped (c .before .before) (above (negsuc 2147483647) (pos 2147483647) _ (simp (toZ-ofZ, fits (c .before .before)) at (c .if2 .taken)))
+returns c = stopped (c .before .before) (tested (c .before) (not-true _ (c .if1 .taken)))
 
 cast-to : tie.Need-cast-to Inv-loop μ-loop
 cast-to c = simp (toZ-ofZ, fits (c .before .before)) (narrow-fits _ (narrow c))
@@ -77,8 +75,8 @@ loop-again c =
       all-more isNarrow from (s .loop .i) (omega arith) (s .loop .inv .3) (narrow c),
     )
 
-returns-3 : tie.Need-returns-3 Inv-loop μ-loop
-returns-3 c =
+returns-2 : tie.Need-returns-2 Inv-loop μ-loop
+returns-2 c =
     let from = c .before .before .args .from .now in
     let e = all-passed isNarrow from (c .before .loop .i) (omega arith) (c .before .loop .inv .3) in
     (sym e, (rw (leading-all isNarrow from e) (put-all (c .before .loop .inv .2) (omega arith)), counts _ _ (omega (arith, c .before .loop .inv .2 .kept))))
@@ -92,10 +90,9 @@ narrow-spec =
     loop-holds
     (λ c. omega arith)
     (λ c. omega arith)
+    (λ c κs. tt)
     (λ c. omega arith)
     returns
-    (λ c. omega arith)
-    returns-2
     cast-to
     (λ c. omega arith)
     (λ c. omega arith)
@@ -103,4 +100,4 @@ narrow-spec =
     (λ c. omega arith)
     loop-again
     (λ c. omega arith)
-    returns-3)
+    returns-2)

@@ -1,6 +1,5 @@
 -- `key::column_of` calls `inner_column` where its tests passed: j is below the width, the table has a row for each entry of the key, the key is small, and
 -- so is every entry of the table. Assumes nothing.
-use mathlib.Core.Path.{sym, _∙_}
 use native.Mathlib.Omega.{arith}
 use borrow.Author.Needs.{needs}
 use borrow.Author.Tests.{leb-true}
@@ -16,8 +15,8 @@ inner-column-requires : tie.Need-inner-column-requires
 inner-column-requires c κs = (
   omega arith,
   omega arith,
-  leb-true _ _ (sym (c .before .before .before .before .is-small .ensures) ∙ passed _ (c .before .before .before .if4 .left)),
-  up-to _ _ (sym (c .before .before .all-up-to .ensures) ∙ passed _ (c .before .if5 .left)),
+  leb-true _ _ (passed (c .before .before .before .before .is-small .ensures) (c .before .before .before .if4 .left)),
+  up-to _ _ (passed (c .before .before .all-up-to .ensures) (c .before .if5 .left)),
 )
 
 pub column-of-spec : {M : Type 1} → statement M

@@ -1,5 +1,4 @@
 -- `key::product_of` calls `inner_product` where its tests passed: the lengths are one, the key is small, and so is every entry. Assumes nothing.
-use mathlib.Core.Path.{sym, _∙_}
 use native.Mathlib.Omega.{arith}
 use borrow.Author.Needs.{needs}
 use borrow.Author.Tests.{leb-true}
@@ -11,8 +10,8 @@ use Rattle.edges.proofs.key.product_of.Tie as tie
 inner-product-requires : tie.Need-inner-product-requires
 inner-product-requires c κs = (
   omega arith,
-  leb-true _ _ (sym (c .before .before .before .before .is-small .ensures) ∙ passed _ (c .before .before .before .if2 .left)),
-  up-to _ _ (sym (c .before .before .all-up-to .ensures) ∙ passed _ (c .before .if3 .left)),
+  leb-true _ _ (passed (c .before .before .before .before .is-small .ensures) (c .before .before .before .if2 .left)),
+  up-to _ _ (passed (c .before .before .all-up-to .ensures) (c .before .if3 .left)),
 )
 
 pub product-of-spec : {M : Type 1} → statement M

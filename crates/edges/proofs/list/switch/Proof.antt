@@ -1,6 +1,6 @@
 -- `list::switch` calls `fill_switch` where its tests passed: n is at most 1,024, t has n² entries and the key n³, residues of q and of Q, and the part of
 -- `made` that is lent has n entries. Assumes nothing.
-use mathlib.Core.Path.{_≡_, sym, _∙_}
+use mathlib.Core.Path.{_≡_, _∙_}
 use Prim.Native.Nat.{ℕ, _*_, _≤_}
 use native.Mathlib.Omega.{arith}
 use lib.ListN.{length}
@@ -25,8 +25,8 @@ fill-switch-requires c κs =
       of-part (λ (k : ℕ). k ≤ 1024) n _ (omega arith) (omega arith),
       of-part (λ (k : ℕ). t ≡ k * k) n _ (omega arith) (omega arith),
       of-part (λ (k : ℕ). length (s .args .key .now) ≡ k * t) n _ (omega arith) (omega arith),
-      sym (c .before .before .before .before .all-residues .ensures) ∙ passed _ (c .before .before .before .if4 .left),
-      sym (c .before .before .all-big-residues .ensures) ∙ passed _ (c .before .if5 .left),
+      passed (c .before .before .before .before .all-residues .ensures) (c .before .before .before .if4 .left),
+      passed (c .before .before .all-big-residues .ensures) (c .before .if5 .left),
     )
 
 part-all-end : tie.Need-part-all-end

@@ -1,5 +1,4 @@
 -- `list::switched` calls `switch_entry` where its tests passed: the lengths are one, and the entries are residues of q and of Q. Assumes nothing.
-use mathlib.Core.Path.{sym, _∙_}
 use native.Mathlib.Omega.{arith}
 use borrow.Author.Needs.{needs}
 use Rattle.edges.proofs.Ranges.{passed}
@@ -11,8 +10,8 @@ switch-entry-requires c κs = (
   c .before .before .before .before .before .before .before .before .pre,
   omega arith,
   omega arith,
-  sym (c .before .before .before .before .all-residues .ensures) ∙ passed _ (c .before .before .before .if3 .left),
-  sym (c .before .before .all-big-residues .ensures) ∙ passed _ (c .before .if4 .left),
+  passed (c .before .before .before .before .all-residues .ensures) (c .before .before .before .if3 .left),
+  passed (c .before .before .all-big-residues .ensures) (c .before .if4 .left),
 )
 
 pub switched-spec : {M : Type 1} → statement M

@@ -1,6 +1,6 @@
 -- `list::tensor` calls `fill_tensor` where its tests passed: both lists have at most 1,024 entries, all of them residues, and the part of `made` that is lent
 -- has as many entries as the tensor. Assumes nothing.
-use mathlib.Core.Path.{sym, _∙_}
+use mathlib.Core.Path.{_∙_}
 use native.Mathlib.Omega.{arith}
 use borrow.Author.Needs.{needs}
 use Rattle.whole.specs.Lists.{put-holds}
@@ -14,8 +14,8 @@ mul-count c = product-fits (omega arith) (omega arith)
 fill-tensor-requires : tie.Need-fill-tensor-requires
 fill-tensor-requires c κs = (
   c .before .before .before .before .before .before .before .before .before .pre,
-  sym (c .before .before .before .before .all-residues .ensures) ∙ passed _ (c .before .before .before .if4 .left),
-  sym (c .before .before .all-residues2 .ensures) ∙ passed _ (c .before .if5 .left),
+  passed (c .before .before .before .before .all-residues .ensures) (c .before .before .before .if4 .left),
+  passed (c .before .before .all-residues2 .ensures) (c .before .if5 .left),
   part-length _ _ (omega arith),
   omega arith,
   omega arith,

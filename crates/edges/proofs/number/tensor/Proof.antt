@@ -1,5 +1,4 @@
 -- `number::tensor` calls `tensor_entry` where `all_residues` answered that both entries are residues. Assumes nothing.
-use mathlib.Core.Path.{sym, _∙_}
 use native.Mathlib.Omega.{arith}
 use lib.IntN.{pos}
 use borrow.Author.Needs.{needs}
@@ -12,7 +11,7 @@ use Rattle.edges.proofs.number.tensor.Tie as tie
 tensor-entry-requires : tie.Need-tensor-entry-requires
 tensor-entry-requires c κs =
     let q = c .before .before .before .before .before .args .q in
-    let h = sym (c .before .before .all-residues .ensures) ∙ passed _ (c .before .if1 .left) in
+    let h = passed (c .before .before .all-residues .ensures) (c .before .if1 .left) in
     (c .before .before .before .before .before .pre, all-getD (isResidue q) _ 0 (pos 0) h (omega arith), all-getD (isResidue q) _ 1 (pos 0) h (omega arith))
 
 pub tensor-spec : {M : Type 1} → statement M
