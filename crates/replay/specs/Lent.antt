@@ -11,7 +11,7 @@ use borrow.Author.Tests.{le-leb, lt-leb}
 use Rattle.refusal.specs.declared.Params.{Params}
 use Rattle.refusal.specs.Parameters.{params}
 use Rattle.stream.specs.Bounds.{Counts}
-use Rattle.stream.specs.Front.{front, front-counts, Put, put-more, put-all}
+use Rattle.stream.specs.Front.{front, front-counts, Put, put-none, put-more, put-all}
 use Rattle.whole.specs.Lists.{getD-map}
 use Rattle.replay.specs.Width.{word}
 
@@ -73,18 +73,35 @@ module _ {A : Type 0} where
       let t : leb (length xs) (length found) ≡ true = le-leb (length xs) (length found) h in
       (rw t, rw t e, rw e (front-counts xs found), l)
 
--- ---- the same, each entry by f
+-- ---- how a loop takes it
 
-module _ {A B : Type 0} (f : A → B) where
-  pub none-mapped : (xs : List A) (found : List B) → length found < length xs → Took (map f xs) found 0 found
-  none-mapped xs found h = took-none (map f xs) found (rw length-map h)
+-- the invariant of a loop that takes ys, an entry for each of xs, into the buffer found, which has room for it
+pub record Taking {A B : Type 0} (xs : List A) (ys found out : List B) (end i : ℕ) : Type 0 where
+  pub ends : end ≡ length xs
+  pub within : i ≤ end
+  pub long : length ys ≡ length xs
+  pub room : length xs ≤ length found
+  pub so-far : Put ys found out i
 
-  -- one entry more
-  pub more-mapped : (xs : List A) {found out : List B} {i : ℕ} → Put (map f xs) found out i → (x : B) (a : A) → i < length xs → length xs ≤ length found → x ≡ f (getD xs i a)
-      → Put (map f xs) found (set out i x) (i + 1)
-  more-mapped xs {found} {out} {i} p x a h l e =
-      put-more p x (f a) (rw length-map h) (rw length-map l) (e ∙ sym (getD-map f xs i a (f a) h))
+module _ {A B : Type 0} {xs : List A} {ys found : List B} {end : ℕ} where
+  pub taking-start : end ≡ length xs → length ys ≡ length xs → length xs ≤ length found → Taking xs ys found found end 0
+  taking-start e l h = record { ends = e; within = omega arith; long = l; room = h; so-far = put-none ys found }
 
-  pub all-mapped : (xs : List A) {found out : List B} {i : ℕ} → Put (map f xs) found out i → length xs ≤ i → length xs ≤ length found → Took (map f xs) found (length xs) out
-  all-mapped xs {found} {out} p h l =
-      rw (length-map xs f) at (took-all (map f xs) found out (rw length-map l) (p .kept) (put-all p (rw length-map h)))
+  pub taking-more : {out : List B} {i : ℕ} → Taking xs ys found out end i → (x d : B) → i < end → x ≡ getD ys i d → Taking xs ys found (set out i x) end (i + 1)
+  taking-more t x d h e =
+      record { ends = t .ends; within = omega arith; long = t .long; room = t .room; so-far = put-more (t .so-far) x d (omega arith) (omega arith) e }
+
+  pub taking-all : {out : List B} {i : ℕ} → Taking xs ys found out end i → end ≤ i → Took ys found (length xs) out
+  taking-all {out} t h = rw (t .long) at (took-all ys found out (omega arith) (t .so-far .kept) (put-all (t .so-far) (omega arith)))
+
+-- where ys is xs, each entry by f
+module _ {A B : Type 0} (f : A → B) (xs : List A) where
+  pub none-mapped : (found : List B) → length found < length xs → Took (map f xs) found 0 found
+  none-mapped found h = took-none (map f xs) found (rw length-map h)
+
+  pub start-mapped : {found : List B} {end : ℕ} → end ≡ length xs → length xs ≤ length found → Taking xs (map f xs) found found end 0
+  start-mapped e h = taking-start e (length-map xs f) h
+
+  pub more-mapped : {found out : List B} {end i : ℕ} → Taking xs (map f xs) found out end i → (x : B) (a : A) → i < end → x ≡ f (getD xs i a)
+      → Taking xs (map f xs) found (set out i x) end (i + 1)
+  more-mapped {i = i} t x a h e = taking-more t x (f a) h (e ∙ sym (getD-map f xs i a (f a) (omega arith)))

@@ -7,26 +7,20 @@ ghost use Rattle.replay.specs.Width.{narrow as Width·narrow, word as Wi
 pub fn word(x: i64) -> u32
     ensures { λ r. ⌜ r ≡ Width·word x ⌝ }
 {
-    if x < 0 {
-        return 0;
+    if stream::is_inside(0, 4294967295, x) {
+        return x as u32;
     }
-    if x > 4294967295 {
-        return 0;
-    }
-    x as u32
+    0
 }
 
 // A signed number of 32 bits.
 pub fn narrow(x: i64) -> i32
     ensures { λ r. ⌜ r ≡ Width·narrow x ⌝ }
 {
-    if x < -2147483648 {
-        return 0;
+    if stream::is_inside(-2147483648, 2147483647, x) {
+        return x as i32;
     }
-    if x > 2147483647 {
-        return 0;
-    }
-    x as i32
+    0
 }
 
 // A byte.

@@ -1,22 +1,20 @@
 -- `lent::words` copies a list's entries, each as a number of 32 bits from 0 up, to the front of a buffer that has room for them, and answers their count. The invariant:
--- those passed stand there (`Put`); the measure is how many entries are left. Assumes nothing.
-use Prim.Native.Nat.{_≤_, _-_}
-use mathlib.Core.Path.{_≡_}
+-- those passed stand there (`Taking`); the measure is how many entries are left. Assumes nothing.
+use Prim.Native.Nat.{_-_}
 use mathlib.Core.List.{map}
 use native.Mathlib.Omega.{arith}
 use lib.IntN.{pos}
-use lib.ListN.{length, getD}
+use lib.ListN.{getD}
 use mir.Facts.{toZ-ofZ}
 use mir.Syntax.{w64}
 use borrow.Author.Needs.{sfits-of}
-use Rattle.stream.specs.Front.{Put, put-none}
-use Rattle.replay.specs.Lent.{none-mapped, more-mapped, all-mapped}
+use Rattle.replay.specs.Lent.{Taking, taking-all, none-mapped, start-mapped, more-mapped}
 use Rattle.replay.specs.Width.{word}
 use Rattle.replay.proofs.lent.words.Statement.{statement}
 use Rattle.replay.proofs.lent.words.Tie as tie
 
 abbrev Inv-loop : tie.InvT-loop
-Inv-loop call at out₀ xs i₀ i-end out i = (i-end ≡ length xs) × (i ≤ i-end) × (length xs ≤ length out₀) × Put (map word xs) out₀ out i
+Inv-loop call at out₀ xs i₀ i-end out i = Taking xs (map word xs) out₀ out i-end i
 
 abbrev μ-loop : tie.MeasureT-loop
 μ-loop call at out₀ xs i₀ i-end out i = i-end - i
@@ -25,19 +23,19 @@ returns : tie.Need-returns Inv-loop μ-loop
 returns c = rw (← c .before .list .ensures) (none-mapped word (c .before .list .result .now) _ (omega arith))
 
 loop-holds : tie.Need-loop-holds Inv-loop μ-loop
-loop-holds c = (omega arith, omega arith, omega arith, put-none _ _)
+loop-holds c = start-mapped word _ (omega arith) (omega arith)
 
 loop-again : tie.Need-loop-again Inv-loop μ-loop
 loop-again c =
     let s = c .before .before .before in
     let xs = s .before .before .list .result .now in
     let f = sfits-of {w = w64} {z = getD xs (s .loop .i) (pos 0)} (c .before .word-arg .given) in
-    (omega arith, omega arith, omega arith, more-mapped word xs (s .loop .inv .3) _ (pos 0) (omega arith) (omega arith) (simp (toZ-ofZ, f) at (c .word .ensures)))
+    more-mapped word xs (s .loop .inv) _ (pos 0) (omega arith) (simp (toZ-ofZ, f) at (c .word .ensures))
 
 returns-2 : tie.Need-returns-2 Inv-loop μ-loop
 returns-2 c =
     let s = c .before in
-    rw (← s .before .before .list .ensures) (all-mapped word (s .before .before .list .result .now) (s .loop .inv .3) (omega arith) (omega arith))
+    rw (← s .before .before .list .ensures) (taking-all (s .loop .inv) (omega arith))
 
 pub words-spec : {M : Type 1} → statement M
 words-spec =
