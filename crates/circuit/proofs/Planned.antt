@@ -1,6 +1,6 @@
 -- What it tells that none of the rows 1, 2, 3 and 8 of planning applies: the facts that the functions ask for by which planning works. And the
 -- four ends of planning: what each answers, and what it leaves in the bounds.
-use mathlib.Core.Path.{_≡_, refl, sym, _∙_}
+use mathlib.Core.Path.{_≡_, sym, _∙_}
 use mathlib.Core.Logic.{_≢_}
 use mathlib.Core.Bool.{true, false}
 use mathlib.Core.List.{List}

@@ -1,7 +1,7 @@
 -- Document 01, *Circuit file and printer*: the file's fields, its own order of refusals, and what the file check and planning
 -- answer and leave in the buffer of bounds. A file is a list of bytes.
 use mathlib.Core.Bool.{Bool, not, _&&_}
-use mathlib.Core.List.{List, [], _∷_, _++_, map, flatMap, foldl}
+use mathlib.Core.List.{List, [], _∷_, _++_, flatMap, foldl}
 use Prim.Native.Nat.{ℕ, _+_, _*_, _/_, _%_}
 use lib.Dec.{ltb, eqb}
 use lib.ListN.{length, getD, take, drop, replicate}

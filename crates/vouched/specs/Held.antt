@@ -20,7 +20,7 @@ use Rattle.circuit.specs.Records.{length-records}
 use Rattle.circuit.specs.Agree.{even-lengths, evaluate-answer-agrees, evaluate-wires-agrees, evaluate-bounds-agrees, evaluate-scratch-agrees}
 use Rattle.circuit.specs.Lowest.{evaluateCore-lowest}
 use Rattle.circuit.specs.Run.{length-run}
-use Rattle.vouched.specs.Demand3.{wireAt, Premises, Vouched, Demand3, Demand3Core}
+use Rattle.vouched.specs.Demand3.{wireAt, Premises, Demand3, Demand3Core}
 use Rattle.vouched.specs.Three.{Alike, three-runs}
 use Rattle.vouched.specs.Sound.{key-fits, Sound, sound-decrypts, gate-keeps}
 use Rattle.vouched.specs.Accepted.{Accepted, accepted, stated-long, stated-fits, input-long, input-residues, operands-below, gate-fits}

@@ -11,7 +11,7 @@ use Rattle.whole.specs.Tests.{clash}
 use Rattle.whole.specs.Lists.{all}
 use Rattle.refusal.specs.declared.Refusal.{Refusal}
 use Rattle.refusal.specs.declared.Params.{Params}
-use Rattle.refusal.specs.First.{Row, Clear, firstOf, first-rest, firstTrue, someTrue, first-is-true, none-before-first, none-true}
+use Rattle.refusal.specs.First.{Row, firstOf, first-rest, firstTrue, someTrue, first-is-true, none-before-first, none-true}
 use Rattle.circuit.specs.declared.Gate.{Gate}
 use Rattle.circuit.specs.Circuits.{wrongGate, wrongGates, overGates, gateRows, placeOf, planRows, planAnswer, evaluateRows, evaluateAnswer}
 use Rattle.circuit.specs.Core.{gate, records, planCoreRows, planCoreAnswer, evaluateCoreRows, evaluateCoreAnswer}

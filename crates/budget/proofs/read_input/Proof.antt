@@ -17,18 +17,6 @@ abbrev μ-loop : tie.MeasureT-loop
 loop-holds : tie.Need-loop-holds Inv-loop μ-loop
 loop-holds c = (omega arith, refl)
 
-sub-read-some : tie.Need-sub-read-some Inv-loop μ-loop
-sub-read-some c = omega arith
-
-part-read-some-start : tie.Need-part-read-some-start Inv-loop μ-loop
-part-read-some-start c = omega arith
-
-part-read-some-end : tie.Need-part-read-some-end Inv-loop μ-loop
-part-read-some-end c = omega arith
-
-read-some-requires : tie.Need-read-some-requires Inv-loop μ-loop
-read-some-requires c κs = tt
-
 -- what is left is put back as long as it was lent, and of it no more is taken
 put : (c : tie.After-read-some Inv-loop μ-loop) → (let f = c .before .before .before .loop in length (putMid (f .len) (length (f .file) - f .len) (f .file) (c .read-some .last .0)) ≡ length (f .file))
 put c = let f = c .before .before .before .loop in same-len-mid (f .len) (length (f .file) - f .len) (f .file) (c .read-some .last .0) (c .read-some .kept .0)
@@ -72,10 +60,10 @@ read-input-spec =
     Inv-loop
     μ-loop
     loop-holds
-    sub-read-some
-    part-read-some-start
-    part-read-some-end
-    read-some-requires
+    (λ c. omega arith)
+    (λ c. omega arith)
+    (λ c. omega arith)
+    (λ c κs. tt)
     same-length
     returns
     add-len

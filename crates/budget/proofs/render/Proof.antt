@@ -9,12 +9,6 @@ use borrow.Author.Needs.{needs}
 use Rattle.budget.proofs.render.Statement.{statement}
 use Rattle.budget.proofs.render.Tie as tie
 
-text-requires : tie.Need-text-requires
-text-requires c κs = search needs
-
-same-length : tie.Need-same-length
-same-length c = search needs
-
 returns : tie.Need-returns
 returns c =
     let s = c .before .before .before .before .before .before in
@@ -24,4 +18,4 @@ returns c =
     (rw (t .0, t .1 .0) (f .1), (within, sym (length-take-le _ _ within)))
 
 pub render-spec : {M : Type 1} → statement M
-render-spec = tie.close (tie.spec text-requires same-length returns)
+render-spec = tie.close (tie.spec (λ c κs. search needs) (λ c. search needs) returns)

@@ -12,9 +12,6 @@ use borrow.Author.Needs.{needs}
 use Rattle.text.proofs.put_bounds.Statement.{statement}
 use Rattle.text.proofs.put_bounds.Tie as tie
 
-put-wires-requires : tie.Need-put-wires-requires
-put-wires-requires c κs = search needs
-
 -- there is a gate, and so a last wire
 some : (s : tie.Start) → 1 ≤ length (s .args .bounds .now)
 some s = omega (arith, ap length (s .pre .1) ∙ length-bounds _, head-right _ (s .pre .0) .gates-low)
@@ -34,20 +31,11 @@ small c = rw (c .params .ensures) (head-right _ (c .before .before .before .befo
 sub-largest : tie.Need-sub-largest
 sub-largest c = positive (c .before)
 
-slice-aggregate-put-pair : tie.Need-slice-aggregate-put-pair
-slice-aggregate-put-pair c = search needs
-
-mul-put-pair : tie.Need-mul-put-pair
-mul-put-pair c = search needs
-
 shared-slice-read-put-pair : tie.Need-shared-slice-read-put-pair
 shared-slice-read-put-pair c = omega (arith, some (c .before .before .before .before .before .before .before .before .before .before .before))
 
 cast-put-pair : tie.Need-cast-put-pair
 cast-put-pair c = omega (arith, c .shared-slice-known3 .given (length (c .before .before .before .before .before .before .before .before .before .before .before .args .bounds .now) - 1))
-
-cast-put-pair-2 : tie.Need-cast-put-pair-2
-cast-put-pair-2 c = search needs
 
 put-pair-requires : tie.Need-put-pair-requires
 put-pair-requires c κs =
@@ -59,9 +47,6 @@ put-pair-requires c κs =
       omega (arith, w .1, written-kept (w .0), s .pre .2),
     )
 
-same-length : tie.Need-same-length
-same-length c = search needs
-
 returns : tie.Need-returns
 unfolding wordOK
 returns c =
@@ -72,15 +57,15 @@ pub put-bounds-spec : {M : Type 1} → statement M
 put-bounds-spec =
     tie.close
     (tie.spec
-    put-wires-requires
+    (λ c κs. search needs)
     sub-last
     params-requires
     sub-largest
-    slice-aggregate-put-pair
-    mul-put-pair
+    (λ c. search needs)
+    (λ c. search needs)
     shared-slice-read-put-pair
     cast-put-pair
-    cast-put-pair-2
+    (λ c. search needs)
     put-pair-requires
-    same-length
+    (λ c. search needs)
     returns)

@@ -21,12 +21,6 @@ abbrev μ-loop : tie.MeasureT-loop
 loop-holds : tie.Need-loop-holds Inv-loop μ-loop
 loop-holds c = (parts-start _ _ _, omega arith)
 
-mul-put-wire : tie.Need-mul-put-wire Inv-loop μ-loop
-mul-put-wire c = omega arith
-
-shared-slice-read-put-wire : tie.Need-shared-slice-read-put-wire Inv-loop μ-loop
-shared-slice-read-put-wire c = omega arith
-
 -- there are as many bounds as wires
 many : (s : tie.Start Inv-loop μ-loop) → (let a = s .args in length (a .bounds .now) ≡ fileInputs (a .file .now) + fileGateCount (a .file .now))
 many s = ap length (s .pre .1) ∙ length-bounds _
@@ -37,12 +31,6 @@ put-wire-requires c κs =
     let s = c .before .before .before .before .before .before .before in
     let more = c .before .before .loop-test .taken in
     (s .pre .0, omega (arith, many s, more), omega (arith, many s, more, head-right _ (s .pre .0) .wires-high, s .pre .2, l .loop .inv .1, written-kept (l .loop .inv .0 .so-far)))
-
-add-wire : tie.Need-add-wire Inv-loop μ-loop
-add-wire c = omega arith
-
-loop-less : tie.Need-loop-less Inv-loop μ-loop
-loop-less c = omega arith
 
 loop-again : tie.Need-loop-again Inv-loop μ-loop
 loop-again c =
@@ -70,11 +58,11 @@ put-wires-spec =
     Inv-loop
     μ-loop
     loop-holds
-    mul-put-wire
-    shared-slice-read-put-wire
+    (λ c. omega arith)
+    (λ c. omega arith)
     put-wire-requires
-    add-wire
-    loop-less
+    (λ c. omega arith)
+    (λ c. omega arith)
     loop-again
     same-length
     returns)

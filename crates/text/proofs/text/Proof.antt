@@ -12,15 +12,6 @@ use borrow.Author.Needs.{needs}
 use Rattle.text.proofs.text.Statement.{statement}
 use Rattle.text.proofs.text.Tie as tie
 
-slice-aggregate-put-text : tie.Need-slice-aggregate-put-text
-slice-aggregate-put-text c = search needs
-
-slice-aggregate-put-text-2 : tie.Need-slice-aggregate-put-text-2
-slice-aggregate-put-text-2 c = search needs
-
-put-text-requires : tie.Need-put-text-requires
-put-text-requires c κs = search needs
-
 -- what was written from the front of the lent buffer is what the call leaves there
 written : (file out : List ℕ) {new : List ℕ} {to : ℕ} → Written (text file) out new 0 to → (to ≡ textAnswer file out) × (new ≡ textBuffer file out)
 written file out {new} {to} w =
@@ -39,21 +30,6 @@ returns c =
     let t = text-short (a .file .now) (a .out .now) (omega (arith, c .if1 .taken, w .stop)) in
     (t .0, (t .1, few (c .before .before .before)))
 
-sub-put : tie.Need-sub-put
-sub-put c = search needs
-
-part-put-start : tie.Need-part-put-start
-part-put-start c = search needs
-
-part-put-end : tie.Need-part-put-end
-part-put-end c = search needs
-
-put-requires : tie.Need-put-requires
-put-requires c κs = search needs
-
-same-length : tie.Need-same-length
-same-length c = search needs
-
 returns-2 : tie.Need-returns-2
 returns-2 c =
     let p = c .before .before .before .before .before .before .before .before .before in
@@ -65,13 +41,13 @@ pub text-spec : {M : Type 1} → statement M
 text-spec =
     tie.close
     (tie.spec
-    slice-aggregate-put-text
-    slice-aggregate-put-text-2
-    put-text-requires
+    (λ c. search needs)
+    (λ c. search needs)
+    (λ c κs. search needs)
     returns
-    sub-put
-    part-put-start
-    part-put-end
-    put-requires
-    same-length
+    (λ c. search needs)
+    (λ c. search needs)
+    (λ c. search needs)
+    (λ c κs. search needs)
+    (λ c. search needs)
     returns-2)

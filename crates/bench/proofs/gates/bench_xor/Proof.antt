@@ -1,19 +1,13 @@
 -- `gates::bench_xor` is XOR on the set of the five numbers: the number is that of its answer, the buffer is left as it leaves it. Leans on what
 -- `xor` ensures.
-use mathlib.Core.Path.{_≡_, ap}
+use mathlib.Core.Path.{ap}
 use borrow.Author.Needs.{needs}
 use Rattle.scheme.specs.declared.Bounded.{Bounded}
 use Rattle.bench.proofs.gates.bench_xor.Statement.{statement}
 use Rattle.bench.proofs.gates.bench_xor.Tie as tie
 
-xor-requires : tie.Need-xor-requires
-xor-requires c κs = search needs
-
-same-length : tie.Need-same-length
-same-length c = search needs
-
 returns : tie.Need-returns
 returns c = (ap (λ (r : Bounded). r .number) (c .before .xor .ensures .0), c .before .xor .ensures .1)
 
 pub bench-xor-spec : {M : Type 1} → statement M
-bench-xor-spec = tie.close (tie.spec xor-requires same-length returns)
+bench-xor-spec = tie.close (tie.spec (λ c κs. search needs) (λ c. search needs) returns)

@@ -1,6 +1,6 @@
 -- `range::bench_range` counts the runs of one test: after k of them it has counted k where the test holds, and none where it does not,
 -- which is the invariant. The measure is the runs that are left. Leans on what `is_modulus` and `all_big_residues` ensure.
-use mathlib.Core.Path.{_≡_, refl, sym, ap, _∙_}
+use mathlib.Core.Path.{_≡_, refl, sym, _∙_}
 use mathlib.Core.Bool.{Bool, true, false, cond}
 use Prim.Native.Nat.{ℕ, _≤_, _+_, _-_, _*_}
 use native.Mathlib.Omega.{arith}
@@ -32,9 +32,6 @@ Inv-loop q key times found₀ k₀ found k = (k ≤ times) × (found ≡ cond (a
 abbrev μ-loop : tie.MeasureT-loop
 μ-loop q key times found₀ k₀ found k = times - k
 
-is-modulus-requires : tie.Need-is-modulus-requires Inv-loop μ-loop
-is-modulus-requires c κs = search needs
-
 returns : tie.Need-returns Inv-loop μ-loop
 unfolding bigResidues
 returns c = let no : isModulus (c .before .before .args .q) ≡ false = sym (c .before .is-modulus .ensures) ∙ not-true _ (c .if1 .taken) in simp no
@@ -50,9 +47,6 @@ loop-holds c =
 all-big-residues-requires : tie.Need-all-big-residues-requires Inv-loop μ-loop
 all-big-residues-requires c κs = modulus _ (is-one (c .before .before))
 
-cast-found : tie.Need-cast-found Inv-loop μ-loop
-cast-found c = search needs
-
 -- one run more counts one more where the test holds
 counted : (c : tie.After-all-big-residues Inv-loop μ-loop)
     → c .before .before .loop .found + boolByte (c .all-big-residues .result)
@@ -61,12 +55,6 @@ counted c = rw (c .before .before .loop .inv .1, ← c .all-big-residues .ensure
 
 add-found : tie.Need-add-found Inv-loop μ-loop
 add-found c = omega (arith, counted c, most (c .all-big-residues .result) (c .before .before .loop .k), more (c .all-big-residues .result) (c .before .before .loop .k))
-
-add-k : tie.Need-add-k Inv-loop μ-loop
-add-k c = omega arith
-
-loop-less : tie.Need-loop-less Inv-loop μ-loop
-loop-less c = omega arith
 
 loop-again : tie.Need-loop-again Inv-loop μ-loop
 loop-again c = (omega arith, rw (← c .all-big-residues .ensures) (counted c))
@@ -83,13 +71,13 @@ bench-range-spec =
     (tie.spec
     Inv-loop
     μ-loop
-    is-modulus-requires
+    (λ c κs. search needs)
     returns
     loop-holds
     all-big-residues-requires
-    cast-found
+    (λ c. search needs)
     add-found
-    add-k
-    loop-less
+    (λ c. omega arith)
+    (λ c. omega arith)
     loop-again
     returns-2)

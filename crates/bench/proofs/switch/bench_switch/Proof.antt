@@ -18,9 +18,6 @@ Inv-loop q t key out₀ times k₀ out k = (k ≤ times) × Run (switch (length 
 abbrev μ-loop : tie.MeasureT-loop
 μ-loop q t key out₀ times k₀ out k = times - k
 
-switch-lent-requires : tie.Need-switch-lent-requires Inv-loop μ-loop
-switch-lent-requires c κs = search needs
-
 returns : tie.Need-returns Inv-loop μ-loop
 returns c =
     let a = c .before .before .args in
@@ -36,12 +33,6 @@ loop-holds c = (omega arith, run-none _ _)
 
 fill-switch-requires : tie.Need-fill-switch-requires Inv-loop μ-loop
 fill-switch-requires c κs = let l = c .before .before in rw (l .loop .inv .1 .kept) (switch-loans _ _ _ _ (lent (l .before)))
-
-add-k : tie.Need-add-k Inv-loop μ-loop
-add-k c = omega arith
-
-loop-less : tie.Need-loop-less Inv-loop μ-loop
-loop-less c = omega arith
 
 loop-again : tie.Need-loop-again Inv-loop μ-loop
 loop-again c =
@@ -65,12 +56,12 @@ bench-switch-spec =
     (tie.spec
     Inv-loop
     μ-loop
-    switch-lent-requires
+    (λ c κs. search needs)
     returns
     loop-holds
     fill-switch-requires
-    add-k
-    loop-less
+    (λ c. omega arith)
+    (λ c. omega arith)
     loop-again
     same-length
     returns-2)

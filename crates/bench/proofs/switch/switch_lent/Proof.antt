@@ -2,7 +2,7 @@
 -- Leans on what `is_modulus`, `all_residues` and `all_big_residues` ensure.
 use mathlib.Core.Path.{_≡_, sym, _∙_}
 use mathlib.Core.Bool.{true, false}
-use Prim.Native.Nat.{_*_, _≤_}
+use Prim.Native.Nat.{_≤_}
 use native.Mathlib.Nat.{mul-le-mul}
 use native.Mathlib.Omega.{arith}
 use lib.ListN.{length}
@@ -15,9 +15,6 @@ use Rattle.bench.proofs.switch.switch_lent.Tie as tie
 -- past the first test q is a modulus
 is-one : (c : tie.Else1) → isModulus (c .before .before .args .q) ≡ true
 is-one c = sym (c .before .is-modulus .ensures) ∙ not-false _ (c .if1 .left)
-
-is-modulus-requires : tie.Need-is-modulus-requires
-is-modulus-requires c κs = search needs
 
 returns : tie.Need-returns
 unfolding switchLent
@@ -61,7 +58,7 @@ pub switch-lent-spec : {M : Type 1} → statement M
 switch-lent-spec =
     tie.close
     (tie.spec
-    is-modulus-requires
+    (λ c κs. search needs)
     returns
     returns-2
     mul-if3

@@ -1,6 +1,6 @@
 -- `tensor::bench_tensor` runs `fill_tensor` over the same buffer. Invariant: the buffer is as found after no run, and the tensor after any other
 -- number (`Run`). The measure is the runs that are left. Leans on what `tensor_lent` and `fill_tensor` ensure.
-use mathlib.Core.Path.{_≡_, sym, ap, _∙_}
+use mathlib.Core.Path.{_≡_, sym, _∙_}
 use mathlib.Core.Bool.{true, false}
 use Prim.Native.Nat.{_≤_, _-_}
 use native.Mathlib.Omega.{arith}
@@ -18,9 +18,6 @@ Inv-loop q c d out₀ times k₀ out k = (k ≤ times) × Run (tensor q c d) out
 abbrev μ-loop : tie.MeasureT-loop
 μ-loop q c d out₀ times k₀ out k = times - k
 
-tensor-lent-requires : tie.Need-tensor-lent-requires Inv-loop μ-loop
-tensor-lent-requires c κs = search needs
-
 returns : tie.Need-returns Inv-loop μ-loop
 returns c =
     let a = c .before .before .args in
@@ -36,12 +33,6 @@ loop-holds c = (omega arith, run-none _ _)
 
 fill-tensor-requires : tie.Need-fill-tensor-requires Inv-loop μ-loop
 fill-tensor-requires c κs = let l = c .before .before in rw (l .loop .inv .1 .kept) (tensor-loans _ _ _ _ (lent (l .before)))
-
-add-k : tie.Need-add-k Inv-loop μ-loop
-add-k c = omega arith
-
-loop-less : tie.Need-loop-less Inv-loop μ-loop
-loop-less c = omega arith
 
 loop-again : tie.Need-loop-again Inv-loop μ-loop
 loop-again c =
@@ -65,12 +56,12 @@ bench-tensor-spec =
     (tie.spec
     Inv-loop
     μ-loop
-    tensor-lent-requires
+    (λ c κs. search needs)
     returns
     loop-holds
     fill-tensor-requires
-    add-k
-    loop-less
+    (λ c. omega arith)
+    (λ c. omega arith)
     loop-again
     same-length
     returns-2)

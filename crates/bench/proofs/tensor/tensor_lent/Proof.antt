@@ -14,9 +14,6 @@ use Rattle.bench.proofs.tensor.tensor_lent.Tie as tie
 is-one : (c : tie.Else1) → isModulus (c .before .before .args .q) ≡ true
 is-one c = sym (c .before .is-modulus .ensures) ∙ not-false _ (c .if1 .left)
 
-is-modulus-requires : tie.Need-is-modulus-requires
-is-modulus-requires c κs = search needs
-
 returns : tie.Need-returns
 unfolding tensorLent
 returns c = let no : isModulus (c .before .before .args .q) ≡ false = sym (c .before .is-modulus .ensures) ∙ not-true _ (c .if1 .taken) in simp no
@@ -53,7 +50,7 @@ pub tensor-lent-spec : {M : Type 1} → statement M
 tensor-lent-spec =
     tie.close
     (tie.spec
-    is-modulus-requires
+    (λ c κs. search needs)
     returns
     returns-2
     returns-3

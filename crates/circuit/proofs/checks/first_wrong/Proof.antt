@@ -28,27 +28,6 @@ abbrev μ-loop : tie.MeasureT-loop
 loop-holds : tie.Need-loop-holds Inv-loop μ-loop
 loop-holds c = record { within = omega arith; wire = omega arith; passed = omega arith }
 
-mul-is-wrong : tie.Need-mul-is-wrong Inv-loop μ-loop
-mul-is-wrong c = omega arith
-
-shared-slice-read-is-wrong : tie.Need-shared-slice-read-is-wrong Inv-loop μ-loop
-shared-slice-read-is-wrong c = omega arith
-
-mul-is-wrong-2 : tie.Need-mul-is-wrong-2 Inv-loop μ-loop
-mul-is-wrong-2 c = omega arith
-
-shared-slice-read-is-wrong-2 : tie.Need-shared-slice-read-is-wrong-2 Inv-loop μ-loop
-shared-slice-read-is-wrong-2 c = omega arith
-
-mul-is-wrong-3 : tie.Need-mul-is-wrong-3 Inv-loop μ-loop
-mul-is-wrong-3 c = omega arith
-
-shared-slice-read-is-wrong-3 : tie.Need-shared-slice-read-is-wrong-3 Inv-loop μ-loop
-shared-slice-read-is-wrong-3 c = omega arith
-
-is-wrong-requires : tie.Need-is-wrong-requires Inv-loop μ-loop
-is-wrong-requires c κs = search needs
-
 -- what `is_wrong` answered is the test of gate g
 abbrev tests : tie.Start Inv-loop μ-loop → List Bool
 tests s = wrongGates (s .args .inputs) (records (s .args .kinds .now) (s .args .lefts .now) (s .args .rights .now))
@@ -68,15 +47,6 @@ tested c =
 
 returns : tie.Need-returns Inv-loop μ-loop
 returns c = first-here (tests (start (c .before))) _ (c .before .before .before .before .before .before .loop .inv .passed) (tested (c .before) ∙ c .if1 .taken)
-
-add-own : tie.Need-add-own Inv-loop μ-loop
-add-own c = omega arith
-
-add-g : tie.Need-add-g Inv-loop μ-loop
-add-g c = omega arith
-
-loop-less : tie.Need-loop-less Inv-loop μ-loop
-loop-less c = omega arith
 
 loop-again : tie.Need-loop-again Inv-loop μ-loop
 loop-again c =
@@ -100,16 +70,16 @@ first-wrong-spec =
     Inv-loop
     μ-loop
     loop-holds
-    mul-is-wrong
-    shared-slice-read-is-wrong
-    mul-is-wrong-2
-    shared-slice-read-is-wrong-2
-    mul-is-wrong-3
-    shared-slice-read-is-wrong-3
-    is-wrong-requires
+    (λ c. omega arith)
+    (λ c. omega arith)
+    (λ c. omega arith)
+    (λ c. omega arith)
+    (λ c. omega arith)
+    (λ c. omega arith)
+    (λ c κs. search needs)
     returns
-    add-own
-    add-g
-    loop-less
+    (λ c. omega arith)
+    (λ c. omega arith)
+    (λ c. omega arith)
     loop-again
     returns-2)

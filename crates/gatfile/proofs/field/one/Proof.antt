@@ -6,9 +6,6 @@ use borrow.Author.Needs.{needs}
 use Rattle.gatfile.proofs.field.one.Statement.{statement}
 use Rattle.gatfile.proofs.field.one.Tie as tie
 
-shared-slice-read-result : tie.Need-shared-slice-read-result
-shared-slice-read-result c = search needs
-
 cast-result : tie.Need-cast-result
 cast-result c = omega (arith, c .shared-slice-known .given (c .before .args .at))
 
@@ -16,4 +13,4 @@ returns : tie.Need-returns
 returns c = (sym (field-one _ _ (c .before .pre)), omega (arith, c .shared-slice-known .given (c .before .args .at)))
 
 pub one-spec : {M : Type 1} → statement M
-one-spec = tie.close (tie.spec shared-slice-read-result cast-result returns)
+one-spec = tie.close (tie.spec (λ c. search needs) cast-result returns)

@@ -4,15 +4,9 @@ use borrow.Author.Needs.{needs}
 use Rattle.gatfile.proofs.head.gate_count.Statement.{statement}
 use Rattle.gatfile.proofs.head.gate_count.Tie as tie
 
-two-requires : tie.Need-two-requires
-two-requires c κs = search needs
-
-cast-result : tie.Need-cast-result
-cast-result c = search needs
-
 returns : tie.Need-returns
 unfolding fileGateCount
 returns c = c .two .ensures
 
 pub gate-count-spec : {M : Type 1} → statement M
-gate-count-spec = tie.close (tie.spec two-requires cast-result returns)
+gate-count-spec = tie.close (tie.spec (λ c κs. search needs) (λ c. search needs) returns)

@@ -11,42 +11,6 @@ returns : tie.Need-returns
 unfolding firstOf headRows
 returns c = simp (lt-ltb _ _ (c .if1 .taken))
 
-gate-count-requires : tie.Need-gate-count-requires
-gate-count-requires c κs = search needs
-
-mul-row : tie.Need-mul-row
-mul-row c = search needs
-
-add-row : tie.Need-add-row
-add-row c = search needs
-
-row-requires : tie.Need-row-requires
-row-requires c κs = search needs
-
-inputs-requires : tie.Need-inputs-requires
-inputs-requires c κs = search needs
-
-are-bad-counts-requires : tie.Need-are-bad-counts-requires
-are-bad-counts-requires c κs = search needs
-
-row-requires-2 : tie.Need-row-requires-2
-row-requires-2 c κs = search needs
-
-params-requires : tie.Need-params-requires
-params-requires c κs = search needs
-
-in-range-requires : tie.Need-in-range-requires
-in-range-requires c κs = search needs
-
-row-requires-3 : tie.Need-row-requires-3
-row-requires-3 c κs = search needs
-
-is-known-requires : tie.Need-is-known-requires
-is-known-requires c κs = search needs
-
-row-requires-4 : tie.Need-row-requires-4
-row-requires-4 c κs = search needs
-
 returns-2 : tie.Need-returns-2
 unfolding firstOf headRows
 returns-2 c =
@@ -73,16 +37,16 @@ head-number-spec =
     tie.close
     (tie.spec
     returns
-    gate-count-requires
-    mul-row
-    add-row
-    row-requires
-    inputs-requires
-    are-bad-counts-requires
-    row-requires-2
-    params-requires
-    in-range-requires
-    row-requires-3
-    is-known-requires
-    row-requires-4
+    (λ c κs. search needs)
+    (λ c. search needs)
+    (λ c. search needs)
+    (λ c κs. search needs)
+    (λ c κs. search needs)
+    (λ c κs. search needs)
+    (λ c κs. search needs)
+    (λ c κs. search needs)
+    (λ c κs. search needs)
+    (λ c κs. search needs)
+    (λ c κs. search needs)
+    (λ c κs. search needs)
     returns-2)

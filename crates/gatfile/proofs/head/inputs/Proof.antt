@@ -4,12 +4,9 @@ use borrow.Author.Needs.{needs}
 use Rattle.gatfile.proofs.head.inputs.Statement.{statement}
 use Rattle.gatfile.proofs.head.inputs.Tie as tie
 
-two-requires : tie.Need-two-requires
-two-requires c κs = search needs
-
 returns : tie.Need-returns
 unfolding fileInputs
 returns c = c .two .ensures
 
 pub inputs-spec : {M : Type 1} → statement M
-inputs-spec = tie.close (tie.spec two-requires returns)
+inputs-spec = tie.close (tie.spec (λ c κs. search needs) returns)

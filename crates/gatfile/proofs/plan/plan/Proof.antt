@@ -6,19 +6,13 @@ use borrow.Author.Needs.{needs}
 use Rattle.gatfile.proofs.plan.plan.Statement.{statement}
 use Rattle.gatfile.proofs.plan.plan.Tie as tie
 
-planned-requires : tie.Need-planned-requires
-planned-requires c κs = search needs
-
 answer-requires : tie.Need-answer-requires
 unfolding planRefusal
 answer-requires c κs = rw (c .before .before .planned .ensures .0) (plan-place _ _)
-
-same-length : tie.Need-same-length
-same-length c = search needs
 
 returns : tie.Need-returns
 unfolding planFileAnswer planRefusal
 returns c = (c .answer .ensures ∙ rw (c .before .before .before .planned .ensures .0), c .before .before .before .planned .ensures .1)
 
 pub plan-spec : {M : Type 1} → statement M
-plan-spec = tie.close (tie.spec planned-requires answer-requires same-length returns)
+plan-spec = tie.close (tie.spec (λ c κs. search needs) answer-requires (λ c. search needs) returns)

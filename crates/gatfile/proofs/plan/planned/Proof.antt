@@ -14,9 +14,6 @@ use borrow.Author.Needs.{needs}
 use Rattle.gatfile.proofs.plan.planned.Statement.{statement}
 use Rattle.gatfile.proofs.plan.planned.Tie as tie
 
-head-number-requires : tie.Need-head-number-requires
-head-number-requires c κs = search needs
-
 returns : tie.Need-returns
 returns c = planned-headed _ _ (c .before .head-number .ensures) (c .if1 .taken)
 
@@ -27,23 +24,11 @@ ready c = head-right _ (sym (c .before .head-number .ensures) ∙ c .if1 .left)
 wire-count-requires : tie.Need-wire-count-requires
 wire-count-requires c κs = ready c .enough
 
-mul-if2 : tie.Need-mul-if2
-mul-if2 c = search needs
-
 returns-2 : tie.Need-returns-2
 returns-2 c = planned-short _ _ (ready (c .before .before)) (λ e. c .if2 .taken (e ∙ ap (λ n. 4 * n) (sym (c .before .wire-count .ensures .0))))
 
-sub-settle : tie.Need-sub-settle
-sub-settle c = search needs
-
-part-table-start : tie.Need-part-table-start
-part-table-start c = search needs
-
 part-table-end : tie.Need-part-table-end
 part-table-end c = omega (arith, c .before .wire-count .ensures .0, ready (c .before .before) .wires-high)
-
-settle-requires : tie.Need-settle-requires
-settle-requires c κs = search needs
 
 -- past the length
 long : (c : tie.Else2) → (let a = c .before .before .before .before .before .before .args in length (a .bounds .now) ≡ 4 * (fileInputs (a .file .now) + fileGateCount (a .file .now)))
@@ -54,12 +39,6 @@ returns-3 c =
     let e = c .before .before .before .before .before in
     planned-refused _ _ (ready (e .before .before)) (long e) (c .before .before .before .settle .ensures .0) (c .if3 .taken)
 
-sub-write-bounds : tie.Need-sub-write-bounds
-sub-write-bounds c = search needs
-
-part-write-bounds-start : tie.Need-part-write-bounds-start
-part-write-bounds-start c = search needs
-
 -- the table holds the bounds of all wires
 filled : (c : tie.Else3) → c .before .before .before .settle .last .1 .0 ≡ fileBounds (c .before .before .before .before .before .before .before .before .before .before .before .args .file .now)
 filled c = let s = c .before .before .before in settled-all _ _ (s .settle .ensures .0) (c .if3 .left) (s .settle .ensures .1)
@@ -69,12 +48,6 @@ filled-long c = ap length (filled c) ∙ length-bounds _ ∙ sym (c .before .bef
 
 part-write-bounds-end : tie.Need-part-write-bounds-end
 part-write-bounds-end c = put-holds _ (c .before .before .before .before .settle .last .1 .0) _ (filled-long (c .before))
-
-write-bounds-requires : tie.Need-write-bounds-requires
-write-bounds-requires c κs = search needs
-
-same-length : tie.Need-same-length
-same-length c = search needs
 
 returns-4 : tie.Need-returns-4
 returns-4 c =
@@ -87,19 +60,19 @@ pub planned-spec : {M : Type 1} → statement M
 planned-spec =
     tie.close
     (tie.spec
-    head-number-requires
+    (λ c κs. search needs)
     returns
     wire-count-requires
-    mul-if2
+    (λ c. search needs)
     returns-2
-    sub-settle
-    part-table-start
+    (λ c. search needs)
+    (λ c. search needs)
     part-table-end
-    settle-requires
+    (λ c κs. search needs)
     returns-3
-    sub-write-bounds
-    part-write-bounds-start
+    (λ c. search needs)
+    (λ c. search needs)
     part-write-bounds-end
-    write-bounds-requires
-    same-length
+    (λ c κs. search needs)
+    (λ c. search needs)
     returns-4)

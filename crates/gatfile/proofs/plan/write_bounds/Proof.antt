@@ -17,25 +17,10 @@ abbrev μ-loop : tie.MeasureT-loop
 loop-holds : tie.Need-loop-holds Inv-loop μ-loop
 loop-holds c = (refl, parts-start fourBytes _ _)
 
-mul-write-four : tie.Need-mul-write-four Inv-loop μ-loop
-mul-write-four c = omega arith
-
-shared-slice-read-write-four : tie.Need-shared-slice-read-write-four Inv-loop μ-loop
-shared-slice-read-write-four c = omega arith
-
 write-four-requires : tie.Need-write-four-requires Inv-loop μ-loop
 write-four-requires c κs =
     let l = c .before .before .before in
     omega (arith, written-kept (l .loop .inv .1 .so-far))
-
-add-at : tie.Need-add-at Inv-loop μ-loop
-add-at c = omega arith
-
-add-i : tie.Need-add-i Inv-loop μ-loop
-add-i c = omega arith
-
-loop-less : tie.Need-loop-less Inv-loop μ-loop
-loop-less c = omega arith
 
 loop-again : tie.Need-loop-again Inv-loop μ-loop
 loop-again c =
@@ -58,12 +43,12 @@ write-bounds-spec =
     Inv-loop
     μ-loop
     loop-holds
-    mul-write-four
-    shared-slice-read-write-four
+    (λ c. omega arith)
+    (λ c. omega arith)
     write-four-requires
-    add-at
-    add-i
-    loop-less
+    (λ c. omega arith)
+    (λ c. omega arith)
+    (λ c. omega arith)
     loop-again
     same-length
     returns)

@@ -10,9 +10,6 @@ use borrow.Author.Needs.{needs}
 use Rattle.gatfile.proofs.settle.checked.Statement.{statement}
 use Rattle.gatfile.proofs.settle.checked.Tie as tie
 
-head-number-requires : tie.Need-head-number-requires
-head-number-requires c κs = search needs
-
 returns : tie.Need-returns
 returns c = (check-headed _ (c .before .head-number .ensures) (c .if1 .taken), λ z. absurd (c .if1 .taken z))
 
@@ -23,20 +20,8 @@ ready c = head-right _ (sym (c .before .head-number .ensures) ∙ c .if1 .left)
 wire-count-requires : tie.Need-wire-count-requires
 wire-count-requires c κs = ready c .enough
 
-sub-settle : tie.Need-sub-settle
-sub-settle c = search needs
-
-part-settle-start : tie.Need-part-settle-start
-part-settle-start c = search needs
-
 part-settle-end : tie.Need-part-settle-end
 part-settle-end c = omega (arith, c .wire-count .ensures .0, ready (c .before) .wires-high)
-
-settle-requires : tie.Need-settle-requires
-settle-requires c κs = search needs
-
-same-length : tie.Need-same-length
-same-length c = search needs
 
 returns-2 : tie.Need-returns-2
 returns-2 c =
@@ -51,12 +36,12 @@ pub checked-spec : {M : Type 1} → statement M
 checked-spec =
     tie.close
     (tie.spec
-    head-number-requires
+    (λ c κs. search needs)
     returns
     wire-count-requires
-    sub-settle
-    part-settle-start
+    (λ c. search needs)
+    (λ c. search needs)
     part-settle-end
-    settle-requires
-    same-length
+    (λ c κs. search needs)
+    (λ c. search needs)
     returns-2)

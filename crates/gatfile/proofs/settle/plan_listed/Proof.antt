@@ -18,36 +18,6 @@ params-requires c κs = head-right _ (c .before .before .before .before .before 
 inputs-requires : tie.Need-inputs-requires
 inputs-requires c κs = head-right _ (c .before .before .before .before .before .before .before .before .before .before .before .before .before .before .before .before .pre .0) .enough
 
-cast-from : tie.Need-cast-from
-cast-from c = search needs
-
-sub-fill : tie.Need-sub-fill
-sub-fill c = search needs
-
-part-fill-start : tie.Need-part-fill-start
-part-fill-start c = search needs
-
-part-fill-end : tie.Need-part-fill-end
-part-fill-end c = search needs
-
-fill-requires : tie.Need-fill-requires
-fill-requires c κs = search needs
-
-plan-requires : tie.Need-plan-requires
-plan-requires c κs = search needs
-
-same-length : tie.Need-same-length
-same-length c = search needs
-
-same-length-2 : tie.Need-same-length-2
-same-length-2 c = search needs
-
-same-length-3 : tie.Need-same-length-3
-same-length-3 c = search needs
-
-same-length-4 : tie.Need-same-length-4
-same-length-4 c = search needs
-
 returns : tie.Need-returns
 returns c =
     let f = c .before .before .before .before .before .before .before .before .before in
@@ -65,14 +35,14 @@ plan-listed-spec =
     read-gates-requires
     params-requires
     inputs-requires
-    cast-from
-    sub-fill
-    part-fill-start
-    part-fill-end
-    fill-requires
-    plan-requires
-    same-length
-    same-length-2
-    same-length-3
-    same-length-4
+    (λ c. search needs)
+    (λ c. search needs)
+    (λ c. search needs)
+    (λ c. search needs)
+    (λ c κs. search needs)
+    (λ c κs. search needs)
+    (λ c. search needs)
+    (λ c. search needs)
+    (λ c. search needs)
+    (λ c. search needs)
     returns)

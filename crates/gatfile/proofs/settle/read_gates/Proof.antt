@@ -19,48 +19,6 @@ loop-holds c =
     let p = c .before .before .before .before .pre in
     listed-start _ (p .1) (p .2) (p .3)
 
-one-requires : tie.Need-one-requires Inv-loop μ-loop
-one-requires c κs = omega arith
-
-mul-kinds : tie.Need-mul-kinds Inv-loop μ-loop
-mul-kinds c = omega arith
-
-slice-write-kinds : tie.Need-slice-write-kinds Inv-loop μ-loop
-slice-write-kinds c = omega arith
-
-add-two : tie.Need-add-two Inv-loop μ-loop
-add-two c = omega arith
-
-two-requires : tie.Need-two-requires Inv-loop μ-loop
-two-requires c κs = omega arith
-
-mul-lefts : tie.Need-mul-lefts Inv-loop μ-loop
-mul-lefts c = omega arith
-
-slice-write-lefts : tie.Need-slice-write-lefts Inv-loop μ-loop
-slice-write-lefts c = omega arith
-
-add-two-2 : tie.Need-add-two-2 Inv-loop μ-loop
-add-two-2 c = omega arith
-
-two-requires-2 : tie.Need-two-requires-2 Inv-loop μ-loop
-two-requires-2 c κs = omega arith
-
-mul-rights : tie.Need-mul-rights Inv-loop μ-loop
-mul-rights c = omega arith
-
-slice-write-rights : tie.Need-slice-write-rights Inv-loop μ-loop
-slice-write-rights c = omega arith
-
-add-at : tie.Need-add-at Inv-loop μ-loop
-add-at c = omega arith
-
-add-g : tie.Need-add-g Inv-loop μ-loop
-add-g c = omega arith
-
-loop-less : tie.Need-loop-less Inv-loop μ-loop
-loop-less c = omega arith
-
 loop-again : tie.Need-loop-again Inv-loop μ-loop
 loop-again c =
     let l = c .before .before .before .before in
@@ -90,20 +48,20 @@ read-gates-spec =
     Inv-loop
     μ-loop
     loop-holds
-    one-requires
-    mul-kinds
-    slice-write-kinds
-    add-two
-    two-requires
-    mul-lefts
-    slice-write-lefts
-    add-two-2
-    two-requires-2
-    mul-rights
-    slice-write-rights
-    add-at
-    add-g
-    loop-less
+    (λ c κs. omega arith)
+    (λ c. omega arith)
+    (λ c. omega arith)
+    (λ c. omega arith)
+    (λ c κs. omega arith)
+    (λ c. omega arith)
+    (λ c. omega arith)
+    (λ c. omega arith)
+    (λ c κs. omega arith)
+    (λ c. omega arith)
+    (λ c. omega arith)
+    (λ c. omega arith)
+    (λ c. omega arith)
+    (λ c. omega arith)
     loop-again
     same-length
     same-length-2

@@ -15,18 +15,6 @@ use Rattle.text.proofs.line.put_kind.Tie as tie
 inputs-requires : tie.Need-inputs-requires
 inputs-requires c κs = head-right _ (c .before .before .pre .0) .enough
 
-cast-from : tie.Need-cast-from
-cast-from c = search needs
-
-slice-aggregate-put : tie.Need-slice-aggregate-put
-slice-aggregate-put c = search needs
-
-put-requires : tie.Need-put-requires
-put-requires c κs = search needs
-
-same-length : tie.Need-same-length
-same-length c = search needs
-
 abbrev spaced : List ℕ → List ℕ
 spaced word = word ++ (32 ∷ [])
 
@@ -54,15 +42,6 @@ add-one c = omega (arith, place c)
 one-requires : tie.Need-one-requires
 one-requires c κs = omega (arith, place c, head-right _ (c .before .before .before .before .pre .0) .long)
 
-slice-aggregate-put-2 : tie.Need-slice-aggregate-put-2
-slice-aggregate-put-2 c = search needs
-
-put-requires-2 : tie.Need-put-requires-2
-put-requires-2 c κs = search needs
-
-same-length-2 : tie.Need-same-length-2
-same-length-2 c = search needs
-
 read : (c : tie.After-one) → (let a = c .before .before .before .before .before .args in c .one .result ≡ field (a .file .now) (23 + 5 * (a .wire - fileInputs (a .file .now))) 1)
 read c = let a = c .before .before .before .before .before .args in c .one .ensures .0 ∙ ap (λ (n : ℕ). field (a .file .now) (23 + 5 * (a .wire - n)) 1) (c .before .before .inputs .ensures .0)
 
@@ -72,29 +51,11 @@ returns-2 c =
     let t = c .before .before .before .before .before in
     written-as (ap spaced (sym (kind-xor _ _ (gate (t .before .before)) (read (t .before)) (t .if2 .taken)))) (c .before .before .put2 .ensures)
 
-slice-aggregate-put-3 : tie.Need-slice-aggregate-put-3
-slice-aggregate-put-3 c = search needs
-
-put-requires-3 : tie.Need-put-requires-3
-put-requires-3 c κs = search needs
-
-same-length-3 : tie.Need-same-length-3
-same-length-3 c = search needs
-
 returns-3 : tie.Need-returns-3
 unfolding wordAND
 returns-3 c =
     let t = c .before .before .before .before .before in
     written-as (ap spaced (sym (kind-and _ _ (gate (t .before .before .before)) (read (t .before .before)) (t .if3 .taken)))) (c .before .before .put3 .ensures)
-
-slice-aggregate-put-4 : tie.Need-slice-aggregate-put-4
-slice-aggregate-put-4 c = search needs
-
-put-requires-4 : tie.Need-put-requires-4
-put-requires-4 c κs = search needs
-
-same-length-4 : tie.Need-same-length-4
-same-length-4 c = search needs
 
 returns-4 : tie.Need-returns-4
 unfolding wordNOT
@@ -107,23 +68,23 @@ put-kind-spec =
     tie.close
     (tie.spec
     inputs-requires
-    cast-from
-    slice-aggregate-put
-    put-requires
-    same-length
+    (λ c. search needs)
+    (λ c. search needs)
+    (λ c κs. search needs)
+    (λ c. search needs)
     returns
     mul-one
     add-one
     one-requires
-    slice-aggregate-put-2
-    put-requires-2
-    same-length-2
+    (λ c. search needs)
+    (λ c κs. search needs)
+    (λ c. search needs)
     returns-2
-    slice-aggregate-put-3
-    put-requires-3
-    same-length-3
+    (λ c. search needs)
+    (λ c κs. search needs)
+    (λ c. search needs)
     returns-3
-    slice-aggregate-put-4
-    put-requires-4
-    same-length-4
+    (λ c. search needs)
+    (λ c κs. search needs)
+    (λ c. search needs)
     returns-4)

@@ -7,9 +7,6 @@ use borrow.Author.Needs.{needs}
 use Rattle.text.proofs.line.put_pair.Statement.{statement}
 use Rattle.text.proofs.line.put_pair.Tie as tie
 
-put-requires : tie.Need-put-requires
-put-requires c κs = search needs
-
 put-field-requires : tie.Need-put-field-requires
 put-field-requires c κs =
     let s = c .before .before .before .before .before .before .before in
@@ -34,13 +31,10 @@ put-field-requires-2 c κs =
       word-few (s .args .y) (s .pre .2),
     )
 
-same-length : tie.Need-same-length
-same-length c = search needs
-
 returns : tie.Need-returns
 unfolding pairLine
 returns c = written-then (written-then (c .before .before .before .before .before .before .before .before .before .before .put .ensures) (c .before .before .before .before .before .before .put-field .ensures)) (c .before .before .put-field2 .ensures)
 
 pub put-pair-spec : {M : Type 1} → statement M
 put-pair-spec =
-    tie.close (tie.spec put-requires put-field-requires put-field-requires-2 same-length returns)
+    tie.close (tie.spec (λ c κs. search needs) put-field-requires put-field-requires-2 (λ c. search needs) returns)

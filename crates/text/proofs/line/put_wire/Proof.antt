@@ -44,9 +44,6 @@ put-field-requires-2 c κs =
       word-few (s .args .bound) (s .fits .bound .fits),
     )
 
-same-length : tie.Need-same-length
-same-length c = search needs
-
 returns : tie.Need-returns
 returns c =
     let s = c .before .before .before .before .before .before .before .before .before .before .before .before .before .before in
@@ -71,4 +68,4 @@ returns c =
 pub put-wire-spec : {M : Type 1} → statement M
 put-wire-spec =
     tie.close
-    (tie.spec put-field-requires put-kind-requires put-field-requires-2 same-length returns)
+    (tie.spec put-field-requires put-kind-requires put-field-requires-2 (λ c. search needs) returns)
