@@ -31,7 +31,7 @@ ENGINE = ("refusal", "modular", "keys", "regev", "circuit", "evaluation", "recor
 THEOREMS = ("whole", "refusal", "scheme", "noise", "circuit", "vouched", "circuitfile")
 RESULTS = "audit.tsv"
 REFUSED, ACCEPTED, BAD = "refused", "accepted", "does not compile"
-SHOWN_FIRST = (("Figures", "Ties", "Slips", "Example", "Witnesses", "Witness"), ("Wording", "Unique", "Lowest", "Exact", "Wrong", "Held"))
+SHOWN_FIRST = (("Figures", "Ties", "Refusals", "Slips", "Example", "Witnesses", "Witness"), ("Wording", "Unique", "Lowest", "Exact", "Wrong", "Held"))
 
 Tried = collections.namedtuple("Tried", "crate file line name old new verdict by")
 
@@ -85,6 +85,7 @@ class Definitions:
         for crate in THEOREMS:
             shutil.copytree(ROOT / "crates" / crate, folder / "crates" / crate, ignore=shutil.ignore_patterns("must-fail"))
         shutil.copytree(ROOT / "docs", folder / "docs")
+        shutil.copytree(ROOT / "tools", folder / "tools")
         leans = dict(line.split(":") for line in (ROOT / "crates.txt").read_text().splitlines() if ":" in line and line[0] != "#")
         lines = [f"{crate}: " + " ".join(d for d in leans[crate].split() if d in THEOREMS) for crate in THEOREMS]
         (folder / "crates.txt").write_text("\n".join(lines) + "\n")

@@ -148,8 +148,20 @@ def defined(root, crate):
     return names
 
 
+def by_hand(root, crate):
+    """The edits made by hand, of definitions that have no operator, number or like operands: place, name, old and new text."""
+    for line in (root / "tools" / "audit_by_hand.tsv").read_text(encoding="utf-8").splitlines():
+        place, name, old, new = line.split("\t")
+        if place.startswith(crate + "/"):
+            path = root / "crates" / crate / "specs" / f"{place.split('/')[1]}.antt"
+            body = next(definition_bodies(path.read_text(encoding="utf-8"), {name}))
+            at, line = next((at, line) for at, line in enumerate(body.lines, body.first) if old in line)
+            yield Edit(crate, "specs", path.name, at, name, line.strip(), line.strip().replace(old, new))
+
+
 def of_definitions(root, crate):
     """The edits of the definitions of a crate that the table of definitions names."""
+    yield from by_hand(root, crate)
     for file, names in sorted(defined(root, crate).items()):
         path = root / "crates" / crate / "specs" / f"{file}.antt"
         if path.exists():

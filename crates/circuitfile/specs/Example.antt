@@ -1,7 +1,7 @@
 -- Document 01's own circuit file, the text that it states for it, and its plan; what the file with one fault or two is refused for; and the largest
 -- bound that fits. All is computed by the definitions.
 use mathlib.Core.Path.{_≡_, refl}
-use mathlib.Core.List.{List, [], _∷_, flatMap}
+use mathlib.Core.List.{List, [], _∷_, _++_, map, flatMap}
 use Prim.Native.Nat.{ℕ, _+_, _*_}
 use lib.ListN.{take, set, replicate}
 use Rattle.whole.specs.Lists.{tabulate}
@@ -62,10 +62,32 @@ pub example-refused : text overBudgetFile ≡ 82 ∷ 69 ∷ 70 ∷ 85 ∷ 83 ∷
 unfolding tabulate firstOf firstTrue doneOr someTrue inRange XOR-bound AND-bound NOT-bound fits badParams differs overBudget byKind run gateBound wrongGate wrongGates boundsOf overGates badCounts gateRows placeOf bigEndian field isKnown fileParams fileInputs fileGateCount fileGate fileGates fileInputBounds fileBounds headRows fileGateRows checkNumber filePlace text wordREFUSED digitsUpTo digits refusedLine
 example-refused = refl
 
--- the check answers 9 for gate 1 and 10 for gate 0
-pub example-checked : checkAnswer wrongKind ∷ checkAnswer overBudgetFile ∷ checkAnswer cutFile ∷ [] ≡ (9 * 65536 + 1) ∷ (10 * 65536) ∷ (12 * 65536) ∷ []
+-- as it stands; 9 for gate 1, and 10 for gate 0
+pub example-checked : map checkAnswer (exampleFile ∷ wrongKind ∷ overBudgetFile ∷ []) ≡ 0 ∷ (9 * 65536 + 1) ∷ (10 * 65536) ∷ []
 unfolding tabulate firstOf firstTrue someTrue inRange XOR-bound AND-bound NOT-bound fits badParams differs overBudget byKind run gateBound wrongGate wrongGates boundsOf overGates badCounts gateRows placeOf bigEndian field isKnown fileParams fileInputs fileGateCount fileGate fileGates fileInputBounds fileBounds headRows fileGateRows checkNumber filePlace checkAnswer
 example-checked = refl
+
+-- another letter at each place of the mark, version 2 and version 257
+pub example-known : map checkAnswer (set exampleFile 0 72 ∷ set exampleFile 1 66 ∷ set exampleFile 2 85 ∷ set exampleFile 4 2 ∷ set exampleFile 3 1 ∷ []) ≡ replicate 5 (11 * 65536)
+unfolding tabulate firstOf firstTrue someTrue inRange XOR-bound AND-bound NOT-bound fits badParams differs overBudget byKind run gateBound wrongGate wrongGates boundsOf overGates badCounts gateRows placeOf bigEndian field isKnown fileParams fileInputs fileGateCount fileGate fileGates fileInputBounds fileBounds headRows fileGateRows checkNumber filePlace checkAnswer
+example-known = refl
+
+-- n is 1; no inputs; no gates, which is told before the length; a byte too many, and one too few; 22 bytes, which are told before the mark
+pub example-head : map checkAnswer (set exampleFile 6 1 ∷ set exampleFile 20 0 ∷ set exampleFile 22 0 ∷ (exampleFile ++ (0 ∷ [])) ∷ take 37 wrongKind ∷ take 22 (set exampleFile 0 72) ∷ [])
+    ≡ (1 * 65536) ∷ (2 * 65536) ∷ (2 * 65536) ∷ (12 * 65536) ∷ (12 * 65536) ∷ (12 * 65536) ∷ []
+unfolding tabulate firstOf firstTrue someTrue inRange XOR-bound AND-bound NOT-bound fits badParams differs overBudget byKind run gateBound wrongGate wrongGates boundsOf overGates badCounts gateRows placeOf bigEndian field isKnown fileParams fileInputs fileGateCount fileGate fileGates fileInputBounds fileBounds headRows fileGateRows checkNumber filePlace checkAnswer
+example-head = refl
+
+-- planning them in a buffer of four bytes a wire
+pub example-answered : planFileAnswer exampleFile (replicate 20 255) ∷ planFileAnswer wrongKind (replicate 20 255) ∷ planFileAnswer overBudgetFile (replicate 20 255) ∷ []
+    ≡ 0 ∷ (9 * 65536 + 1) ∷ (10 * 65536) ∷ []
+unfolding tabulate firstOf firstTrue someTrue inRange XOR-bound AND-bound NOT-bound fits badParams differs overBudget byKind run gateBound wrongGate wrongGates boundsOf overGates badCounts gateRows placeOf bigEndian field isKnown fileParams fileInputs fileGateCount fileGate fileGates fileInputBounds fileBounds headRows fileGateRows planNumber filePlace planFileAnswer
+example-answered = refl
+
+-- a refusal leaves the buffer as found
+pub example-left : planFileBuffer wrongKind (replicate 20 255) ≡ replicate 20 255
+unfolding tabulate firstOf firstTrue someTrue inRange XOR-bound AND-bound NOT-bound fits badParams differs overBudget byKind run gateBound wrongGate wrongGates boundsOf overGates badCounts gateRows placeOf bigEndian field isKnown fileParams fileInputs fileGateCount fileGate fileGates fileInputBounds fileBounds headRows fileGateRows planNumber planFileBuffer doneOr
+example-left = refl
 
 -- planning the same in a buffer that is a byte short: 3 comes before 9 and 10, and after 12
 pub example-order : planFileAnswer wrongKind (replicate 19 255) ∷ planFileAnswer overBudgetFile (replicate 19 255) ∷ planFileAnswer cutFile (replicate 19 255) ∷ []

@@ -182,6 +182,7 @@ numbers =
     ∷ is (bound (notAnswer good c 4 2)) (refuses₃ 8)
     -- AND: 1, 3 of each of five loans, 6 of each of three, 8 of each operand, 10
     ∷ is (bound (andAnswer noErrors c 0 c 0 W 4 2)) (three 0 0 3)
+    ∷ is (bound (andAnswer (sheet 1) (replicate 4 (pos 0)) 2 (replicate 4 (pos 0)) 3 (replicate 64 (pos 0)) 16 4)) (three 0 0 38)
     ∷ is (bound (andAnswer bad c 0 c 0 W 4 2)) (refuses₃ 1)
     ∷ is (bound (andAnswer noErrors s₄ 0 c 0 W 4 2)) (refuses₃ 3)
     ∷ is (bound (andAnswer noErrors c 0 s₄ 0 W 4 2)) (refuses₃ 3)
@@ -219,11 +220,14 @@ buffers =
     ∷ is (andResult noErrors above 0 c 0 W found₄ found) found
     ∷ is (andResult noErrors c 0 under 0 W found₄ found) found
     ∷ is (andResult noErrors c 1 c 0 W found₄ found) found
+    ∷ is (andResult noErrors c 0 c 1 W found₄ found) found
     ∷ is (andScratch noErrors above 0 c 0 W found₄ found) found₄
     ∷ is (andScratch noErrors c 0 under 0 W found₄ found) found₄
     ∷ is (andScratch noErrors c 1 c 0 W found₄ found) found₄
-    -- XOR of two that differ, and done at the edge of the budget
+    ∷ is (andScratch noErrors c 0 c 1 W found₄ found) found₄
+    -- XOR and AND of two that differ, and NOT at the edge of the budget; AND under document 01's switching key
     ∷ is (xorResult good c 1 (pair (pos 1) (− 1)) 2 found) (pair (− 8) (pos 7))
+    ∷ is (andResult noErrors (pair (pos 6) (pos 3)) 0 c 0 (− 83 ∷ pos 116 ∷ pos 9 ∷ pos 15 ∷ four (pos 100) (− 100) (pos 7) (pos 0)) found₄ found) (pair (− 7) (pos 6))
     ∷ is (notResult good c 3 found) (pair (− 1) (− 8))
     -- the bench key of s = (1,1,0,0), with 0 to 15 as its first row of masks and one error: u·4+v has q where u and v are below 2
     ∷ is (flatMap (λ row. row) (benchKey (four (pos 1) (pos 1) (pos 0) (pos 0)) (tabulate 16 pos ++ replicate 32 (pos 3)) (pos 1 ∷ replicate 15 (pos 0))))
