@@ -15,6 +15,7 @@ import sys
 
 ROOT = pathlib.Path(__file__).resolve().parent.parent
 LAYER = ("circuit", "evaluation")
+COMPUTED = ("Example.antt", "Refusals.antt")  # tables of worked figures, by computation alone
 ALLOWED = ROOT / "tools" / "cited.txt"
 
 USE = re.compile(r"^(?:ghost )?use Rattle·([a-z]+)\.([A-Za-z0-9_.]+?)\.\{([^}]*)\}", re.M)
@@ -52,7 +53,7 @@ def scan():
             continue
         text = path.read_text()
         names = names_of(text)
-        computed = path.name == "Example.antt"
+        computed = path.name in COMPUTED
         for crate, module, name in names.values():
             if crate in lower and not computed:
                 rows.add(("cites", crate, module, name))
