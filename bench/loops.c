@@ -69,9 +69,16 @@ static void sum_shape(int64_t q, const int64_t *c, const int64_t *d, int64_t *ou
     for (uint64_t i = 0; i < n; i++) out[i] = one_turn(c[i] + d[i], q);
 }
 
+/* A row is a line over the entries of d, with 42 binary places: a product, a sum and a shift for each, and one division in all. */
 static void tensor_shape(int64_t q, const int64_t *c, const int64_t *d, int64_t *out, uint64_t n) {
-    for (uint64_t u = 0; u < n; u++)
-        for (uint64_t v = 0; v < n; v++) out[u * n + v] = one_turn(round_int64(2 * c[u] * d[v], q), q);
+    const int64_t half = q / 2, reciprocal = (1ll << 62) / half, base = (1ll << 41) + q;
+    for (uint64_t u = 0; u < n; u++) {
+        const int64_t slope = c[u] * reciprocal >> 20;
+        for (uint64_t v = 0; v < n; v++) {
+            const int64_t k = (slope * d[v] + base) >> 42;
+            out[u * n + v] = k >= half ? -half : k;
+        }
+    }
 }
 
 /* Chunks of 16 products in 64 bits, folded into a high and a low part. */

@@ -14,7 +14,7 @@ struct arithmetic {
 /* Straight from document 01: [x]q and round by division, S in __int128, a range check that ends at the first entry beyond. */
 extern const struct arithmetic straight;
 
-/* In the same shape as the Rattle loops: S in chunks of 16, one division an entry of the tensor and none a sum, a range check with no exit. */
+/* In the same shape as the Rattle loops: S in chunks of 16, one division in all of the tensor and none a sum, a range check with no exit. */
 extern const struct arithmetic same_shape;
 
 /* [x]q: in -q/2 to q/2-1. */

@@ -6,13 +6,12 @@ object.py count ARCHIVE [--markdown]            the instructions of the row loop
 object.py cycles ARCHIVE OBJECT [--markdown]    what llvm-mca says of the row loop, of the range check and of the __int128 loop in OBJECT, in
                                                 cycles an entry
 
-A hot loop is one block of code: a jump back, with no other jump and no jump's target on the way. The tensor's has several blocks (flow.py).
+A hot loop is one block of code: a jump back, with no other jump and no jump's target on the way.
 """
 import re
 import subprocess
 import sys
 
-import flow
 from table import show, verdict
 
 # for each processor, the names to ask llvm-mca for and how that processor's own model names its parts: the first that it has a model of
@@ -122,20 +121,22 @@ def wide_loop(path):
     return longest(path, "__int128 loop", lambda l: l.count("imul") > 0 and l.count("adc") > 0)
 
 
-def divisions(archive):
-    """How many divisions an entry of the tensor takes, on the way through its loop that has most. Its loop is one with none inside, which makes a
-    product and divides it with its sign; it stands in the code as often as it was inlined, and all are looked at."""
-    found = []
-    for code in functions(archive):
-        for loop in flow.innermost(code):
-            names = [code[k].name for k in loop[1]]
-            if any(name.startswith("imul") for name in names) and any(name.startswith("idiv") for name in names):
-                divided = flow.through(loop, lambda k: code[k].name.startswith(("div", "idiv")), max)
-                entries = flow.through(loop, lambda k: code[k].name.startswith("imul"), min)
-                found.append(divided / max(entries, 1))
+def tensor_loops(archive):
+    """Those of the tensor: for each entry a product and a shift by its 42 binary places. They stand in the code as often as they were inlined."""
+
+    def is_one(loop):
+        shifts = [i for i in loop.instructions if i.name.startswith("sar") and re.match(r"\$(42|0x2a),", i.operands)]
+        return 0 < len(shifts) == loop.count("imul")
+
+    found = [loop for loop in loops(archive) if is_one(loop)]
     if not found:
-        fail(f"{archive}: there is no tensor's loop: no innermost loop has imul and idiv")
-    return max(found), len(found)
+        fail(f"{archive}: there is no tensor's loop: no loop of one block has as many imul as shifts by 42")
+    return found
+
+
+def most_an_entry(found, count):
+    """Of the tensor's loops, the most of what is counted for one entry."""
+    return max(count(loop) / loop.count("imul") for loop in found)
 
 
 def count(archive, as_markdown):
@@ -147,12 +148,13 @@ def count(archive, as_markdown):
     check_met = entries >= 4
     row_told = f"{size} instructions, {products} `imul`, {packed} `pmuludq` for 16 entries"
     check_told = f"{4 * len(check.instructions) / max(entries, 1):g} instructions for 4 entries, {entries} entries a turn"
-    divided, places = divisions(archive)
-    divided_told = f"{divided:g} {'division' if divided == 1 else 'divisions'} an entry at most, in {places} places"
+    tensor = tensor_loops(archive)
+    divided = most_an_entry(tensor, lambda loop: loop.count("div", "idiv"))
+    tensor_told = f"{divided:g} divisions and {most_an_entry(tensor, lambda loop: len(loop.instructions)):g} instructions an entry, in {len(tensor)} places"
     told = [
         ["row loop", row_told, "at most 64, 16, 0", verdict(row_met)],
         ["range check", check_told, "vectorised", verdict(check_met)],
-        ["tensor", divided_told, "at most 1", verdict(divided <= 1)],
+        ["tensor", tensor_told, "at most 1 division", verdict(divided <= 1)],
     ]
     show("Object code", ["", "found", "target", ""], told, as_markdown)
     return row_met and check_met and divided <= 1

@@ -6,7 +6,7 @@
 //      1  q x              [x]q                      residue::Residue::of
 //      2  q x              [x]Q                      big_residue::BigResidue::of
 //      3  q a              round(a/q)                round::round_quotient
-//      4  q x y            an entry of the tensor    tensor::tensor_entry
+//      4  q x y            an entry of the tensor    tensor::fill_tensor
 //      5  q c d            the tensor                tensor::fill_tensor
 //      6  q t row          a switched entry          switch::switch_entry
 //      7  q n t key        the n switched entries    switch::fill_switch

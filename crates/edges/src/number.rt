@@ -7,7 +7,7 @@ use modular::big_residue::BigResidue;
 use modular::range::all_residues;
 use modular::residue::Residue;
 use modular::round::round_quotient;
-use modular::tensor::tensor_entry;
+use modular::tensor::fill_tensor;
 
 // 1: [x]q
 pub fn residue(q: u32, x: i64, text: &mut [u8], at: usize) -> usize
@@ -36,7 +36,7 @@ pub fn rounded(q: u32, a: i64, text: &mut [u8], at: usize) -> usize
     print::one(text, at, round_quotient(a, q))
 }
 
-// 4: an entry of the tensor
+// 4: an entry of the tensor, that of two lists of one entry
 pub fn tensor(q: u32, x: i64, y: i64, text: &mut [u8], at: usize) -> usize
     requires { ⌜ Modulus q ⌝ }
     ensures { λ r. ⌜ Placed r (now (text .entry)) (now (text .exit)) ⌝ }
@@ -44,5 +44,7 @@ pub fn tensor(q: u32, x: i64, y: i64, text: &mut [u8], at: usize) -> usize
     if !all_residues(&[x, y], q) {
         return print::refused(text, at);
     }
-    print::one(text, at, tensor_entry(x, y, q).value())
+    let mut entry = [0i64; 1];
+    fill_tensor(q, &[x], &[y], &mut entry);
+    print::one(text, at, entry[0])
 }

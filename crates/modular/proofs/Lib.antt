@@ -1,4 +1,5 @@
 pub mod Beyond
+pub mod Lines
 pub mod Sums
 pub mod Switching
 pub mod Tops

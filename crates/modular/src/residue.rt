@@ -1,4 +1,6 @@
 ghost use mathlib.Core.Path.{_≡_};
+ghost use Prim.Native.Nat.{_/_, _≤_};
+ghost use lib.IntN.{natAbs};
 ghost use Rattle.whole.specs.Centred.{centred};
 ghost use Rattle.modular.specs.Loans.{Modulus, Near};
 use crate::centre::centre;
@@ -22,6 +24,18 @@ impl Residue {
         ensures { λ r. ⌜ r .0 ≡ centred q x ⌝ }
     {
         Residue(one_turn(x, q as u64))
+    }
+
+    // [x]q for an x of at most q/2 in size: q/2 alone is outside the range.
+    pub fn up_to_half(x: i64, q: u32) -> Residue
+        requires { ⌜ Modulus q × (natAbs x ≤ q / 2) ⌝ }
+        ensures { λ r. ⌜ r .0 ≡ centred q x ⌝ }
+    {
+        let half = (q / 2) as i64;
+        if half <= x {
+            return Residue(-half);
+        }
+        Residue(x)
     }
 
     pub fn value(self) -> i64

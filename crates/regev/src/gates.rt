@@ -1,12 +1,11 @@
 ghost use mathlib.Core.Path.{_≡_};
 ghost use mathlib.Core.Bool.{true};
 ghost use Prim.Native.Nat.{_*_, _≤_, _<_};
-ghost use lib.IntN.{pos};
-ghost use lib.ListN.{length, replicate};
+ghost use lib.ListN.{length};
 ghost use Rattle.whole.specs.Lists.{all};
 ghost use Rattle.refusal.specs.First.{firstOf};
 ghost use Rattle.refusal.specs.Parameters.{InRange};
-ghost use Rattle.scheme.specs.Arithmetic.{isResidue, XOR, NOT, AND, AND-bound};
+ghost use Rattle.scheme.specs.Arithmetic.{isResidue, XOR, NOT, tensor, AND, AND-bound};
 ghost use Rattle.scheme.specs.Calls.{xorRows, xorAnswer, xorResult, notRows, notAnswer, notResult, andRows, andAnswer, andResult, andScratch};
 ghost use Rattle.modular.specs.Loans.{Modulus};
 use keys::tests::is_outside;
@@ -43,15 +42,14 @@ pub fn not_into(q: u32, c: &[i64], out: &mut [i64])
     out[0] = Residue::near(c[0] + half, q).value();
 }
 
-// AND: tensor, then switch. The scratch holds the tensor and is zeroed.
+// AND: tensor, then switch. The scratch is left with the tensor.
 pub fn and_into(q: u32, c: &[i64], d: &[i64], key: &[i64], scratch: &mut [i64], out: &mut [i64])
     requires { ⌜ Modulus q × (length (now out) ≤ 1024) × (length (now c) ≡ length (now out)) × (length (now d) ≡ length (now out)) × (length (now scratch) ≡ length (now out) * length (now out)) × (length (now key) ≡ length (now out) * (length (now out) * length (now out))) × (all (isResidue q) (now c) ≡ true) × (all (isResidue q) (now d) ≡ true) × (all (isResidue (q * q)) (now key) ≡ true) ⌝ }
     ensures { λ r. ⌜ now (out .exit) ≡ AND (length (now (out .entry))) q (now (key .entry)) (now (c .entry)) (now (d .entry)) ⌝ }
-    ensures { λ r. ⌜ now (scratch .exit) ≡ replicate (length (now (scratch .entry))) (pos 0) ⌝ }
+    ensures { λ r. ⌜ now (scratch .exit) ≡ tensor q (now (c .entry)) (now (d .entry)) ⌝ }
 {
     fill_tensor(q, c, d, scratch);
     fill_switch(q, scratch, key, out);
-    zero(scratch);
 }
 
 // The bound of AND, with its two divisions rounded down by themselves. It can pass 32 bits before it is refused.
@@ -206,6 +204,7 @@ pub fn and(
         };
     }
     and_into(p.q, c, d, key, scratch, out);
+    zero(scratch);
     Bounded {
         number: 0,
         place: 0,

@@ -3,17 +3,21 @@
 -- one row to `fill_row`, which gives it back as row u. The measure is what is left of c. Assumes nothing.
 use mathlib.Core.Path.{_≡_, sym, ap, _∙_}
 use mathlib.Core.List.{List, map}
-use Prim.Native.Nat.{ℕ, _≤_, _-_, _<_, _+_, _*_}
+use Prim.Native.Nat.{ℕ, _≤_, _-_, _<_, _+_, _*_, _/_}
 use native.Mathlib.Omega.{arith}
-use native.Mathlib.Nat.{mul-le-mul-right, add-sub-cancel-left}
+use native.Mathlib.Nat.{mul-le-mul-right, add-sub-cancel-left, div-le-self}
 use lib.IntN.{ℤ, pos}
+use lib.Signed.{quotZ}
 use lib.ListN.{length, getD, take, drop}
 use mir.Syntax.{w64}
-use mir.Facts.{toZ-ofZ}
-use borrow.Author.Needs.{sfits-of}
+use mir.Val.{SFits, toZ, ofZ}
+use mir.Facts.{toZ-ofZ, toZ-pos}
+use borrow.Author.Needs.{needs, sfits-of}
 use borrow.Rule.Slice.PartMut.{mid-len}
+use Rattle.whole.specs.Machine.{fits64}
 use Rattle.whole.specs.Lists.{all-getD, length-grid, grid-row, row-ends, Filled, fill-start, fill-part, fill-end}
 use Rattle.scheme.specs.Arithmetic.{isResidue, tensorEntry, tensor}
+use Rattle.modular.specs.Lines.{reciprocalOf}
 use Rattle.modular.proofs.tensor.fill_tensor.Statement.{statement}
 use Rattle.modular.proofs.tensor.fill_tensor.Tie as tie
 
@@ -27,14 +31,28 @@ unfolding tensor
 tensor-row q c d u h = grid-row (tensorEntry q) c d u (pos 0) h
 
 abbrev Inv-loop : tie.InvT-loop
-Inv-loop q c d out₀ n at₀ u₀ out at u = (u ≤ length c) × (at ≡ u * length d) × Filled (tensor q c d) out₀ out at
+Inv-loop q c d out₀ reciprocal n at₀ u₀ out at u = (u ≤ length c) × (at ≡ u * length d) × Filled (tensor q c d) out₀ out at
 
 abbrev μ-loop : tie.MeasureT-loop
-μ-loop q c d out₀ n at₀ u₀ out at u = length c - u
+μ-loop q c d out₀ reciprocal n at₀ u₀ out at u = length c - u
 
 -- in a turn the row lies within the tensor
 inside : (c : tie.In-loop Inv-loop μ-loop) → c .before .loop .at + length (c .before .before .args .d .now) ≤ length (c .before .before .args .out .now)
 inside c = omega (arith, row-ends (length (c .before .before .args .d .now)) (length (c .before .before .args .c .now)) (c .before .loop .u) (c .loop-test .taken))
+
+-- 2^62 divided by q/2, and q/2, fit
+module _ (c : tie.Start Inv-loop μ-loop) where
+  half-back : toZ w64 (c .args .q / 2) ≡ pos (c .args .q / 2)
+  half-back = toZ-pos w64 (omega (arith, c .pre .0 .high))
+
+  reciprocal-fits : SFits w64 (pos (reciprocalOf (c .args .q)))
+  reciprocal-fits = fits64 _ (omega (arith, div-le-self 4611686018427387904 (c .args .q / 2)))
+
+  reciprocal-back : toZ w64 (ofZ w64 (quotZ (pos 4611686018427387904) (toZ w64 (c .args .q / 2)))) ≡ pos (reciprocalOf (c .args .q))
+  reciprocal-back = rw half-back (toZ-ofZ reciprocal-fits)
+
+div-reciprocal : tie.Need-div-reciprocal Inv-loop μ-loop
+div-reciprocal c = rw (half-back c) (omega (arith, c .pre .0 .positive, c .pre .0 .even), reciprocal-fits c)
 
 loop-holds : tie.Need-loop-holds Inv-loop μ-loop
 loop-holds c = (omega arith, omega arith, fill-start _ _ (rw (tensor-length, c .pre .3)))
@@ -55,6 +73,7 @@ fill-row-requires c κs =
     let h : l .loop .at + length (s .args .d .now) ≤ length (l .loop .out) = omega (arith, inside (c .before .before)) in (
       s .pre .0,
       simp (toZ-ofZ, sfits-of {w = w64} {z = getD (s .args .c .now) (l .loop .u) (pos 0)} (c .before .fill-row-arg .given)) (all-getD (isResidue (s .args .q)) (s .args .c .now) (l .loop .u) (pos 0) (s .pre .1) (c .before .before .loop-test .taken)),
+      reciprocal-back s,
       s .pre .2,
       mid-len (l .loop .at) (l .loop .at + length (s .args .d .now)) (l .loop .out) h ∙ add-sub-cancel-left (l .loop .at) (length (s .args .d .now)),
     )
@@ -89,6 +108,8 @@ fill-tensor-spec =
     (tie.spec
     Inv-loop
     μ-loop
+    (λ c. search needs)
+    div-reciprocal
     loop-holds
     add-end
     (λ c. omega arith)

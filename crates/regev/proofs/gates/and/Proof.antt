@@ -1,4 +1,5 @@
--- `regev::gates::and` answers and writes as AND is defined: where the number is not 0 nothing, and where it is 0 (`AndReady`) what `and_into` writes.
+-- `regev::gates::and` answers and writes as AND is defined: where the number is not 0 nothing, and where it is 0 (`AndReady`) what `and_into` writes,
+-- and zeros into the scratch.
 -- The bound fits 32 bits, since four times it is below q.
 use mathlib.Core.Path.{_≡_, sym, ap, _∙_}
 use Prim.Native.Nat.{ℕ}
@@ -7,6 +8,7 @@ use lib.IntN.{pos}
 use lib.ListN.{length, replicate}
 use Rattle.refusal.specs.First.{firstOf}
 use Rattle.scheme.specs.Arithmetic.{AND}
+use Rattle.scheme.specs.Wording.{length-tensor}
 use Rattle.scheme.specs.Calls.{andRows, andAnswer, andResult, andScratch}
 use Rattle.keys.specs.Chain.{params-modulus, refused-kept, done-written, bounded-refused, bounded-done}
 use Rattle.regev.proofs.ReadyGates.{AndReady, and-ready}
@@ -43,18 +45,19 @@ and-into-requires c κs =
 
 and-bound-requires : tie.Need-and-bound-requires
 and-bound-requires c κs =
-    let r = ready (c .before .before .before .before .before) in
+    let r = ready (c .before .before .before .before .before .before .before .before) in
     (r .range, r .left-fits, r .right-fits)
 
-cast-t19 : tie.Need-cast-t19
-cast-t19 c =
-    let r = ready (c .before .before .before .before .before .before) in
+cast-t21 : tie.Need-cast-t21
+cast-t21 c =
+    let r = ready (c .before .before .before .before .before .before .before .before .before) in
     omega (arith, r .fits, r .range .q-high, c .and-bound .ensures .0)
 
 returns-2 : tie.Need-returns-2
 unfolding andAnswer andResult andScratch
 returns-2 c =
-    let i = c .before .before .before in
+    let w = c .before .before in
+    let i = w .before .before .before .before in
     let e = i .before .before .before in
     let s = e .before .before .args in
     let z = zero e in
@@ -62,7 +65,7 @@ returns-2 c =
       bounded-done _ z (c .and-bound .ensures .0),
       (
         done-written _ _ z (i .and-into .ensures .0 ∙ ap (λ (n : ℕ). AND n (s .p .q) (s .key .now) (s .c .now) (s .d .now)) (r .room)),
-        done-written _ _ z (i .and-into .ensures .1 ∙ ap (λ (n : ℕ). replicate n (pos 0)) (r .scratch-long)),
+        done-written _ _ z (w .zero .ensures ∙ rw (i .and-into .ensures .1, length-tensor, r .left-long, r .right-long)),
       ),
     )
 
@@ -73,8 +76,9 @@ and-spec =
     (λ c κs. search needs)
     returns
     and-into-requires
+    (λ c κs. search needs)
     and-bound-requires
-    cast-t19
+    cast-t21
     (λ c. search needs)
     (λ c. search needs)
     returns-2)

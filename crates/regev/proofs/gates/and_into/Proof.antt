@@ -1,10 +1,8 @@
--- `regev::gates::and_into` writes the AND of c and d: their tensor into the scratch, its switch into out, and then zeros into the scratch.
--- Leans on what the three callees ensure; the tensor is as long as the scratch, and its entries are residues (scheme's `Wording`).
+-- `regev::gates::and_into` writes the AND of c and d: their tensor into the scratch, and its switch into out.
+-- Leans on what the two callees ensure; the tensor is as long as the scratch, and its entries are residues (scheme's `Wording`).
 use mathlib.Core.Path.{_≡_, sym, ap, _∙_}
-use Prim.Native.Nat.{ℕ}
 use native.Mathlib.Omega.{arith}
-use lib.IntN.{pos}
-use lib.ListN.{length, replicate}
+use lib.ListN.{length}
 use Rattle.scheme.specs.Arithmetic.{AND, switch}
 use Rattle.scheme.specs.Wording.{length-tensor, tensor-residues}
 use borrow.Author.Needs.{needs}
@@ -36,11 +34,11 @@ fill-switch-requires c κs =
 returns : tie.Need-returns
 unfolding AND
 returns c =
-    let w = c .before .before .before .before in
+    let w = c .before in
     let t = w .before .before .before .before in
     let s = t .before .before in (
       w .fill-switch .ensures ∙ ap (switch (length (s .args .out .now)) (s .args .q) (s .args .key .now)) (t .fill-tensor .ensures),
-      c .before .zero .ensures ∙ ap (λ (k : ℕ). replicate k (pos 0)) (long t),
+      t .fill-tensor .ensures,
     )
 
 pub and-into-spec : {M : Type 1} → statement M
@@ -49,7 +47,6 @@ and-into-spec =
     (tie.spec
     fill-tensor-requires
     fill-switch-requires
-    (λ c κs. search needs)
     (λ c. search needs)
     (λ c. search needs)
     returns)
