@@ -1,6 +1,6 @@
 -- A row of the tensor as a line: for a fixed x, 2·x·y/q rounded is (slope·y + 2^41 + q)/2^42 rounded down (`line-rounds`), where the slope is
 -- x·2^42 over q/2, at most 2 off: so it is had from 2^62 divided by q/2 (`shifted-slope`). Assumes nothing.
-use mathlib.Core.Path.{_≡_, sym, ap, ap₂, _∙_}
+use mathlib.Core.Path.{_≡_, sym, ap, _∙_}
 use mathlib.Core.Bool.{true}
 use mathlib.Core.List.{[], _∷_}
 use Prim.Native.Nat.{ℕ, _+_, _*_, _/_, _%_, _≤_, _<_}
@@ -93,7 +93,7 @@ module _ (q : ℕ) (x slope : ℤ) (m : Modulus q) (rx : isResidue q x ≡ true)
     pub point-size : natAbs point ≤ 4398046511106 * 524288 + 2199024304128
     point-size = omega (arith, product-size, size-add (slope *ℤ y) (pos 2199023255552 +ℤ pos q), m .high)
 
-    -- 2·x·y is at most q·(q/2) in size, and so is twice the gap times y
+    -- 2·x·y is at most q·(q/2) in size
     doubled-size : natAbs (pos 2 *ℤ x *ℤ y) ≤ q * h
     doubled-size = rw size-mul (mul-le-mul (omega (arith, m .even, residue-size q x rx, size-mul (pos 2) x)) (residue-size q y ry))
 

@@ -4,8 +4,7 @@
 use mathlib.Core.Path.{_≡_, sym, ap, _∙_}
 use Prim.Native.Nat.{ℕ}
 use native.Mathlib.Omega.{arith}
-use lib.IntN.{pos}
-use lib.ListN.{length, replicate}
+use lib.ListN.{length}
 use Rattle.refusal.specs.First.{firstOf}
 use Rattle.scheme.specs.Arithmetic.{AND}
 use Rattle.scheme.specs.Wording.{length-tensor}

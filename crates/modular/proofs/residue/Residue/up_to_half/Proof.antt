@@ -1,9 +1,9 @@
 -- `modular::residue::Residue::up_to_half` meets its contract: the residue is [x]q. |x| ≤ q/2, so that x is q/2, whose residue is −q/2
 -- (`centred-middle`), or lies in the range. Assumes nothing.
 use mathlib.Core.Path.{_≡_, sym, ap, _∙_}
-use Prim.Native.Nat.{_*_, _/_, _≤_, _<_}
+use Prim.Native.Nat.{_/_}
 use native.Mathlib.Omega.{arith}
-use lib.IntN.{ℤ, pos, negℤ, _-ℤ_, natAbs}
+use lib.IntN.{ℤ, pos, negℤ, _-ℤ_}
 use lib.Signed.{_≤ℤ_, _<ℤ_}
 use mir.Syntax.{w64}
 use mir.Val.{SFits, toZ}
@@ -13,7 +13,6 @@ use Rattle.whole.specs.Tests.{leZ-true, leZ-false}
 use Rattle.whole.specs.Split.{zarith, sub-is, mul-is, up-neg, dn-neg, size-is, apart}
 use Rattle.whole.specs.Centred.{centred, centred-middle, centred-id}
 use Rattle.whole.specs.Machine.{fits64}
-use Rattle.modular.specs.Loans.{Modulus}
 use Rattle.modular.proofs.residue.Residue.up_to_half.Statement.{statement}
 use Rattle.modular.proofs.residue.Residue.up_to_half.Tie as tie
 
