@@ -54,6 +54,14 @@ module _ {A : Type 0} where
   unfoldable pub fitting : ℕ → List A → List A
   fitting room xs = cond (leb (length xs) room) xs []
 
+  pub fitting-within : (room : ℕ) (xs : List A) → length xs ≤ room → fitting room xs ≡ xs
+  unfolding fitting
+  fitting-within room xs h = rw (le-leb (length xs) room h)
+
+  pub fitting-over : (room : ℕ) (xs : List A) → room < length xs → fitting room xs ≡ []
+  unfolding fitting
+  fitting-over room xs h = rw (lt-leb (length xs) room h)
+
   -- what it tells that n entries were taken of xs into the buffer found, and out is left: the list at its front, the rest as found
   abbrev pub Took : List A → List A → ℕ → List A → Type 0
   Took xs found n out =

@@ -6,6 +6,7 @@ use crate::lent;
 use crate::print;
 use crate::read::MIDDLE;
 use crate::read::WIRES;
+use crate::recorded;
 use refusal::Params;
 
 // Plans in `bounds`; puts the answer and `bounds`.
@@ -79,7 +80,7 @@ fn put_evaluated(
 }
 
 // Call 13 with its gates, on what else it borrows.
-fn put_call(
+fn put_listed(
     call: &[i64],
     text: &mut [u8],
     at: usize,
@@ -112,16 +113,47 @@ fn put_call(
     )
 }
 
-// Call 13: as call 12, with the wires as found before the bounds, and a switching key and scratch
-// after them. The wires stand in a buffer that is lent.
+// Call 18 has its gates in one list, call 13 in three.
+fn is_recorded(call: &[i64]) -> bool {
+    lent::word(call, 0) == 18
+}
+
+// The place after the gates.
+fn past_gates(call: &[i64]) -> usize {
+    let first = lent::past(call, 7);
+    if is_recorded(call) {
+        return first;
+    }
+    lent::past(call, lent::past(call, first))
+}
+
+// Either call with its gates, on what else it borrows.
+fn put_call(
+    call: &[i64],
+    text: &mut [u8],
+    at: usize,
+    wires: &mut [i64],
+    bounds: &mut [u32],
+    key: &[i64],
+    scratch: &mut [i64],
+) -> usize
+    ensures { λ r. ⌜ Placed r (now (text .entry)) (now (text .exit)) ⌝ }
+{
+    if is_recorded(call) {
+        return recorded::put_call(call, text, at, wires, bounds, key, scratch);
+    }
+    put_listed(call, text, at, wires, bounds, key, scratch)
+}
+
+// Calls 13 and 18: as calls 12 and 17, with the wires as found before the bounds, and a switching key
+// and scratch after them. The wires stand in a buffer that is lent.
 pub fn evaluate(call: &[i64], text: &mut [u8], at: usize, wires: &mut [i64]) -> usize
     ensures { λ r. ⌜ Placed r (now (text .entry)) (now (text .exit)) ⌝ }
     ensures { λ _. ⌜ length (now (wires .exit)) ≡ length (now (wires .entry)) ⌝ }
 {
     let mut bounds = [0u32; WIRES];
     let mut scratch = [0i64; MIDDLE];
-    let at_rights = lent::past(call, lent::past(call, 7));
-    let at_wires = lent::past(call, at_rights);
+    let at_wires = past_gates(call);
     let at_bounds = lent::past(call, at_wires);
     let at_key = lent::past(call, at_bounds);
     let key = lent::list(call, at_key);

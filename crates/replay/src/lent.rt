@@ -2,9 +2,15 @@
 // beyond the call a number is 0 and a list empty.
 ghost use mathlib.Core.Path.{_≡_};
 ghost use mathlib.Core.List.{map};
+ghost use Prim.Native.Nat.{_+_, _≤_, _<_};
+ghost use lib.ListN.{length};
+ghost use Rattle.stream.specs.Front.{front};
+ghost use Rattle.replay.specs.Gates.{gateAt, noGates, lentGates};
 ghost use Rattle.replay.specs.Lent.{numberAt, wordAt, nextAt, listAt, pastAt, paramsAt, Took};
 ghost use Rattle.replay.specs.Width.{narrow as Width·narrow, word as Width·word, byte as Width·byte};
+use crate::read::WIRES;
 use crate::width;
+use circuit::Gate;
 use refusal::Params;
 
 // The number at a place.
@@ -127,4 +133,52 @@ pub fn bytes(call: &[i64], at: usize, out: &mut [u8]) -> usize
         out[i] = width::byte(xs[i]);
     }
     xs.len()
+}
+
+// Zeros alone.
+fn no_gates() -> [Gate; WIRES]
+    ensures { λ r. ⌜ r ≡ noGates ⌝ }
+{
+    [Gate {
+        kind: 0,
+        left: 0,
+        right: 0,
+    }; WIRES]
+}
+
+// The gate whose three numbers stand at a place.
+fn gate(xs: &[i64], at: usize) -> Gate
+    requires { ⌜ at + 2 < length (now xs) ⌝ }
+    ensures { λ r. ⌜ r ≡ gateAt (now (xs .entry)) at ⌝ }
+{
+    Gate {
+        kind: word(xs, at),
+        left: word(xs, at + 1),
+        right: word(xs, at + 2),
+    }
+}
+
+// How many gates the list at a place has: three numbers are a gate, and more gates than an array holds are none.
+pub fn gate_count(call: &[i64], at: usize) -> usize
+    ensures { λ r. ⌜ r ≡ length (lentGates (now (call .entry)) at) ⌝ }
+    ensures { λ r. ⌜ r ≤ 5200 ⌝ }
+{
+    let n = list(call, at).len() / 3;
+    if n > WIRES {
+        return 0;
+    }
+    n
+}
+
+// These gates, and zeros behind them.
+pub fn gates(call: &[i64], at: usize) -> [Gate; WIRES]
+    ensures { λ r. ⌜ r ≡ front (lentGates (now (call .entry)) at) noGates ⌝ }
+{
+    let xs = list(call, at);
+    let n = gate_count(call, at);
+    let mut out = no_gates();
+    for i in 0..n {
+        out[i] = gate(xs, i * 3);
+    }
+    out
 }

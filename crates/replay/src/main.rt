@@ -7,9 +7,11 @@ mod circuits;
 mod files;
 mod gate;
 mod key;
+mod lending;
 mod lent;
 mod print;
 mod read;
+mod recorded;
 mod sets;
 mod width;
 
@@ -19,7 +21,7 @@ use read::STORE;
 // The most calls of a run. A proved loop has to end, and nothing says that the input does.
 const CALLS: usize = 4294967296;
 
-// Does the call and puts its answer into the text. The numbers of calls are 1 to 16 (`read`).
+// Does the call and puts its answer into the text. The numbers of calls are 1 to 18 (`read`).
 fn answer(call: &[i64], text: &mut [u8], at: usize, long: &mut [i64]) -> usize
     ensures { λ r. ⌜ Placed r (now (text .entry)) (now (text .exit)) ⌝ }
 {
@@ -36,10 +38,11 @@ fn answer(call: &[i64], text: &mut [u8], at: usize, long: &mut [i64]) -> usize
         10 => gate::not(call, text, at),
         11 => gate::and(call, text, at),
         12 => circuits::plan(call, text, at),
-        13 => circuits::evaluate(call, text, at, long),
+        13 | 18 => circuits::evaluate(call, text, at, long),
         14 => files::check(call, text, at),
         15 => files::plan(call, text, at),
-        _ => files::print(call, text, at),
+        16 => files::print(call, text, at),
+        _ => recorded::plan(call, text, at),
     }
 }
 

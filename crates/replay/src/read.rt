@@ -9,7 +9,8 @@ use stream::Cursor;
 
 // What a call has at a place: nothing (O), a number of 32 bits from 0 up (W), a number of 64 bits
 // (X), a key (K), a list of n, n² or n³ numbers of 64 bits (N1, N2, N3), a list with a number of 32 bits
-// from 0 up for each gate or wire (U), or a list of bytes: a file's or its bounds' (B), or a text's (T).
+// from 0 up for each gate or wire (U), one with three for each gate (G), or a list of bytes: a file's or
+// its bounds' (B), or a text's (T).
 const O: u8 = 0;
 
 const W: u8 = 1;
@@ -26,9 +27,11 @@ const N3: u8 = 6;
 
 const U: u8 = 7;
 
-const B: u8 = 8;
+const G: u8 = 8;
 
-const T: u8 = 9;
+const B: u8 = 9;
+
+const T: u8 = 10;
 
 // The most entries of a key and of a list of n, n² and n³ entries. They serve up to n = 64, and a
 // little more, so that a wrong length can be tried.
@@ -41,6 +44,9 @@ pub const LONG: usize = 262400;
 // The most entries of a list for gates or wires, of which a circuit has at most 4,096 and 5,120.
 pub const WIRES: usize = 5200;
 
+// Three numbers for each of as many gates.
+const GATES: usize = 15600;
+
 // The most bytes of a circuit file or of its bounds, which have at most 20,503 and 20,480, and of a
 // text, which has at most 79,803.
 pub const FILE: usize = 20600;
@@ -51,7 +57,7 @@ pub const TEXT: usize = 81000;
 pub const STORE: usize = 550000;
 
 // What each call has after its number; there is no call 0. Five W are a parameter set.
-const SHAPES: [[u8; 13]; 17] = [
+const SHAPES: [[u8; 13]; 19] = [
     [O, O, O, O, O, O, O, O, O, O, O, O, O],
     [W, W, W, W, W, O, O, O, O, O, O, O, O],
     [W, O, O, O, O, O, O, O, O, O, O, O, O],
@@ -69,6 +75,8 @@ const SHAPES: [[u8; 13]; 17] = [
     [B, O, O, O, O, O, O, O, O, O, O, O, O],
     [B, B, O, O, O, O, O, O, O, O, O, O, O],
     [B, T, O, O, O, O, O, O, O, O, O, O, O],
+    [W, W, W, W, W, W, G, U, O, O, O, O, O],
+    [W, W, W, W, W, W, G, N3, U, N3, N2, O, O],
 ];
 
 // Where reading stands: what is left of the block that was read last, how many numbers the store
@@ -130,6 +138,9 @@ fn most(kind: u8) -> i64 {
     if kind == B {
         return FILE as i64;
     }
+    if kind == G {
+        return GATES as i64;
+    }
     if kind == U {
         return WIRES as i64;
     }
@@ -152,12 +163,12 @@ fn list(block: &mut [u8], r: Reader, store: &mut [i64], kind: u8) -> Reader {
     if kind == K {
         return run(block, counted, store, n, -2147483648, 2147483647);
     }
-    if kind == U {
-        return run(block, counted, store, n, 0, 4294967295);
-    }
-    // B and T are bytes.
+    // B and T are bytes, U and G numbers of 32 bits from 0 up.
     if kind >= B {
         return run(block, counted, store, n, 0, 255);
+    }
+    if kind >= U {
+        return run(block, counted, store, n, 0, 4294967295);
     }
     run(
         block,
@@ -199,7 +210,7 @@ fn parts(block: &mut [u8], r: Reader, store: &mut [i64], shape: [u8; 13]) -> Rea
 // What the call of a number has.
 fn shape(number: i64) -> [u8; 13] {
     let k = count(number);
-    if k < 17 {
+    if k < 19 {
         return SHAPES[k];
     }
     SHAPES[0]
@@ -217,7 +228,7 @@ pub fn call(block: &mut [u8], from: Cursor, store: &mut [i64]) -> Reader
         value: 0,
         good: true,
     };
-    let number = take(block, start, store, 1, 16);
+    let number = take(block, start, store, 1, 18);
     let last = parts(block, number, store, shape(number.value));
     let cursor = last.cursor;
     if last.at <= store.len() {
