@@ -9,8 +9,8 @@ among the damages, and so are lengths that are one off.
 import engine
 from engine import HOUSE_SHEETS, Params, centred, inner, largest_that_fits
 from replay_format import (AND, CHECK_BENCH_KEY, CHECK_FILE, CHECK_KEY, DECRYPT, ENCRYPT, EVALUATE,
-                           MAKE, MAKE_BENCH_KEY, MAKE_SWITCHING_KEY, NOT, PLAN, PLAN_FILE,
-                           PRINT_FILE, SHEET, XOR)
+                           EVALUATE_GATES, MAKE, MAKE_BENCH_KEY, MAKE_SWITCHING_KEY, NOT, PLAN,
+                           PLAN_FILE, PLAN_GATES, PRINT_FILE, SHEET, XOR)
 
 LEAST_32, MOST_32 = -(2**31), 2**31 - 1
 LEAST_64, MOST_64 = -(2**63), 2**63 - 1
@@ -28,6 +28,7 @@ REFUSALS = {
     NOT: (1, 3, 6, 8), AND: (1, 3, 6, 8, 10), PLAN: (1, 2, 3, 8, 9, 10),
     EVALUATE: (1, 2, 3, 6, 8, 9, 10), CHECK_FILE: (1, 2, 9, 10, 11, 12),
     PLAN_FILE: (1, 2, 3, 9, 10, 11, 12), PRINT_FILE: (1, 2, 9, 10, 11, 12),
+    PLAN_GATES: (1, 2, 3, 8, 9, 10), EVALUATE_GATES: (1, 2, 3, 6, 8, 9, 10),
 }
 
 # Where a call's fields have their keys, and their entries modulo q and modulo Q.
@@ -372,9 +373,10 @@ def unreadable_texts():
     """Texts that end with something that is no call, after one that is."""
     word = "3 2 16 2 1 1 "
     plan, whole = "12 2 16 2 1 1 1 ", "13 2 16 2 1 1 1 1 2 1 0 1 0 "
+    gates, records = "17 2 16 2 1 1 1 ", "18 2 16 2 1 1 1 3 2 0 0 "
     return [
         "2 1\n" + text for text in (
-            "", " \t\r\n", "0", "12", "13", "14", "15", "16", "17", "17 0",
+            "", " \t\r\n", "0", "12", "13", "14", "15", "16", "17", "18", "19", "19 0",
             "-1 0", "x", "2 1x", "2 +1", "2 1.0", "2 -", "2 --1", "2 4294967296",
             "2 -1", "1 2 16 2 1", "1 2 16 2 1 9223372036854775808", word, word + "2 1",
             word + "1 2147483648", word + "1 -2147483649", word + "-1", word + "129 " + "1 " * 129,
@@ -390,5 +392,11 @@ def unreadable_texts():
             whole + "262401 " + "0 " * 262401 + "2 0 0 8 0 0 0 0 0 0 0 0 4 0 0 0 0",
             "14 1 256", "14 1 -1", "14 2 0", "14 20601 " + "0 " * 20601, "15 1 71", "15 1 71 1 256",
             "15 0 20601 " + "0 " * 20601, "16 1 71", "16 1 71 2 0 -1", "16 0 81001 " + "0 " * 81001,
+            gates + "3 2 0 0 2 0", gates + "3 2 0 -1 2 0 0", gates + "3 4294967296 0 0 2 0 0",
+            gates + "15601 " + "0 " * 15601 + "2 0 0", gates + "3 2 0 0 5201 " + "0 " * 5201,
+            records + "4 0 0 0 0 2 0 0 8 0 0 0 0 0 0 0 0 4 0 0 0",
+            records + "4 0 0 0 9223372036854775808 2 0 0 8 0 0 0 0 0 0 0 0 4 0 0 0 0",
+            records + "4 0 0 0 0 2 0 -1 8 0 0 0 0 0 0 0 0 4 0 0 0 0",
+            records + "262401 " + "0 " * 262401 + "2 0 0 8 0 0 0 0 0 0 0 0 4 0 0 0 0",
         )
     ]

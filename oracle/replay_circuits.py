@@ -1,9 +1,11 @@
-"""Random circuits as calls: planning and evaluation of each, valid and damaged.
+"""Random circuits as calls: planning and evaluation of each, of three lists and of gate records, valid
+and damaged.
 
 A circuit is first drawn so that no refusal applies: on a house sheet or on any
 other set, its key and inputs true ones of a known secret, or anything within range, or such that
 the sums pass 2^63. Some are drawn gate by gate until one does not fit. What the calls only write
-arrives with anything in it. Then each of the two calls is mostly damaged by itself.
+arrives with anything in it. Then each of the two calls over three lists is mostly damaged by itself,
+and is followed by the same over gate records: where the lists have one length, both answer alike.
 """
 
 from typing import NamedTuple
@@ -15,7 +17,8 @@ from engine import HOUSE_SHEETS, Gate, Params, fits_budget, largest_that_fits
 from replay_batch import (LEAST_64, MOST_64, REFUSALS, WRAPPING, and_bounds, damage_set,
                           draw_bound, draw_entries, draw_errors, draw_found, draw_key,
                           make_wide_and, put, quiet_set)
-from replay_format import EVALUATE, FIELDS, MAKE_SWITCHING_KEY, MOST_ENTRIES, PLAN, SET, WORD
+from replay_format import (EVALUATE, EVALUATE_GATES, FIELDS, MAKE_SWITCHING_KEY, MOST_ENTRIES, PLAN,
+                           PLAN_GATES, SET, WORD)
 
 # Where the calls have their fields. KINDS, LEFTS and RIGHTS are those of both.
 SET_AT, INPUTS_AT, KINDS, LEFTS, RIGHTS, WIRES, KEY, SCRATCH = 0, 1, 2, 3, 4, 5, 7, 8
@@ -178,6 +181,25 @@ def evaluate_call(rng, drawn):
     ]
 
 
+RECORD_CALL = {PLAN: PLAN_GATES, EVALUATE: EVALUATE_GATES}
+
+
+def as_records(call):
+    """A call over three lists as one over gate records. There is a record for each kind; a wire that
+    the other lists lack is 0."""
+    number, fields = call
+    kinds, lefts, rights = fields[KINDS : RIGHTS + 1]
+    missing = [0] * len(kinds)
+    records = zip(kinds, lefts + missing, rights + missing)
+    numbers = [x for record in records for x in record]
+    return RECORD_CALL[number], [*fields[:KINDS], numbers, *fields[RIGHTS + 1 :]]
+
+
+def both_ways(call):
+    """A call over three lists, and the same over gate records."""
+    return call, as_records(call)
+
+
 # Damages.
 
 
@@ -317,11 +339,11 @@ def damaged(rng, call):
 
 
 def make_circuits(rng, count, sizes):
-    """So many circuits, planning and evaluation of each."""
+    """So many circuits, planning and evaluation of each, both ways."""
     for _ in range(count):
         drawn = draw_circuit(rng, sizes)
-        yield damaged(rng, plan_call(rng, drawn))
-        yield damaged(rng, evaluate_call(rng, drawn))
+        yield from both_ways(damaged(rng, plan_call(rng, drawn)))
+        yield from both_ways(damaged(rng, evaluate_call(rng, drawn)))
 
 
 # The largest circuit.
@@ -351,8 +373,8 @@ def fullest_call(number):
 
 
 def largest_calls(rng):
-    """Both calls on the largest circuit, on the same with a last gate that is wrong and with one
-    that does not fit, and with one gate and one input too many; and the longest calls."""
+    """Both calls, both ways, on the largest circuit, on the same with a last gate that is wrong and with
+    one that does not fit, and with one gate and one input too many; and the longest calls."""
     drawn = largest_circuit(rng)
     bounds = circuit.settle(drawn.p, MOST_INPUTS, drawn.gates, drawn.bounds).bounds
     loudest = bounds.index(max(bounds[:-1]))
@@ -361,6 +383,7 @@ def largest_calls(rng):
     more = drawn._replace(gates=drawn.gates + [Gate(engine.NOT, 0, 0)])
     wider = drawn._replace(bounds=drawn.bounds + [0], wires=drawn.wires + [0, 0])
     for one in (drawn, with_last(drawn, wrong), with_last(drawn, loud), more, wider):
-        yield plan_call(rng, one)
-        yield evaluate_call(rng, one)
-    yield from (fullest_call(number) for number in (MAKE_SWITCHING_KEY, PLAN, EVALUATE))
+        yield from both_ways(plan_call(rng, one))
+        yield from both_ways(evaluate_call(rng, one))
+    yield from (fullest_call(number) for number in (
+        MAKE_SWITCHING_KEY, PLAN, EVALUATE, PLAN_GATES, EVALUATE_GATES))

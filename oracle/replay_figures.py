@@ -8,6 +8,7 @@ its entries out, since q times 1 at column j and 0 elsewhere gives tensor entry 
 """
 
 from engine import HOUSE_SHEETS, Params
+from replay_circuits import as_records
 from replay_format import (AND, CHECK_FILE, DECRYPT, ENCRYPT, EVALUATE, MAKE, MAKE_SWITCHING_KEY, NOT,
                            PLAN, PLAN_FILE, PRINT_FILE, SHEET, XOR, answered)
 
@@ -124,7 +125,7 @@ def quiet_circuit(gates, inputs, results):
     return (EVALUATE, lent), [0, 0] + inputs + results + [0] * (wires + count + 4)
 
 
-def circuit_figures():
+def list_figures():
     """The bounds of the printed example, the figures of bounds as circuits of one gate, and those of
     ciphertexts as one circuit: XOR, NOT and AND of (6,3)."""
     of_two = [(1, 0, 1)]
@@ -138,6 +139,13 @@ def circuit_figures():
         planned(SHEET_0, [4, 1], of_two, [8, 0], None),
         quiet_circuit([(0, 0, 0), (2, 0, 0), (1, 0, 0)], [6, 3], [-4, 6, -2, 3, 7, 4]),
     ]
+
+
+def circuit_figures():
+    """The same over gate records, and one of them with two numbers that are no gate after its gates."""
+    records = [(as_records(call), answer) for call, answer in list_figures()]
+    (number, (p, inputs, numbers, bounds)), answer = records[0]
+    return list_figures() + records + [((number, [p, inputs, numbers + [0, 1], bounds]), answer)]
 
 
 def file_figures():

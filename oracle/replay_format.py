@@ -7,10 +7,11 @@ set is a Params, a buffer is a list, everything else is a whole number.
 import re
 
 import engine
-from engine import PAPER, Params
+from engine import PAPER, Gate, Params
 
 (MAKE, SHEET, CHECK_KEY, MAKE_SWITCHING_KEY, CHECK_BENCH_KEY, MAKE_BENCH_KEY, ENCRYPT, DECRYPT,
- XOR, NOT, AND, PLAN, EVALUATE, CHECK_FILE, PLAN_FILE, PRINT_FILE) = range(1, 17)
+ XOR, NOT, AND, PLAN, EVALUATE, CHECK_FILE, PLAN_FILE, PRINT_FILE, PLAN_GATES,
+ EVALUATE_GATES) = range(1, 19)
 
 NAMES = {
     MAKE: "make", SHEET: "sheet", CHECK_KEY: "check_key",
@@ -18,12 +19,13 @@ NAMES = {
     MAKE_BENCH_KEY: "make_bench_key", ENCRYPT: "encrypt", DECRYPT: "decrypt",
     XOR: "xor", NOT: "not", AND: "and", PLAN: "plan", EVALUATE: "evaluate",
     CHECK_FILE: "check_file", PLAN_FILE: "plan_file", PRINT_FILE: "print_file",
+    PLAN_GATES: "plan_gates", EVALUATE_GATES: "evaluate_gates",
 }
 
 # What a call borrows: an unsigned word, a signed number, a parameter set, a key, a buffer of
-# at most n, n^2 or n^3 entries, a list of words, one for each gate or wire of a circuit, or a list
-# of bytes: a circuit file or its bounds, or the buffer of a text.
-WORD, NUMBER, SET, KEY, SHORT, MIDDLE, LONG, RUN, FILE, TEXT = range(10)
+# at most n, n^2 or n^3 entries, a list of words, one for each gate or wire of a circuit or three for
+# each gate, or a list of bytes: a circuit file or its bounds, or the buffer of a text.
+WORD, NUMBER, SET, KEY, SHORT, MIDDLE, LONG, RUN, GATES, FILE, TEXT = range(11)
 
 FIELDS = {
     MAKE: [SET],
@@ -42,16 +44,21 @@ FIELDS = {
     CHECK_FILE: [FILE],
     PLAN_FILE: [FILE, FILE],
     PRINT_FILE: [FILE, TEXT],
+    PLAN_GATES: [SET, WORD, GATES, RUN],
+    EVALUATE_GATES: [SET, WORD, GATES, LONG, RUN, LONG, MIDDLE],
 }
+
+# The buffers that a call on gate records may write.
+WRITTEN = {PLAN_GATES: (3,), EVALUATE_GATES: (3, 4, 6)}
 
 WORDS = (0, 2**32 - 1)
 NUMBERS = (-(2**63), 2**63 - 1)
 KEY_ENTRIES = (-(2**31), 2**31 - 1)
 BYTES = (0, 255)
-MOST_ENTRIES = {KEY: 128, SHORT: 128, MIDDLE: 4160, LONG: 262400, RUN: 5200, FILE: 20600,
-                TEXT: 81000}
+MOST_ENTRIES = {KEY: 128, SHORT: 128, MIDDLE: 4160, LONG: 262400, RUN: 5200, GATES: 15600,
+                FILE: 20600, TEXT: 81000}
 WIDTHS = {KEY: KEY_ENTRIES, SHORT: NUMBERS, MIDDLE: NUMBERS, LONG: NUMBERS, RUN: WORDS,
-          FILE: BYTES, TEXT: BYTES}
+          GATES: WORDS, FILE: BYTES, TEXT: BYTES}
 
 END = "end \n"
 
@@ -115,6 +122,19 @@ def bench_key(fields):
     return [x for row in engine.make_bench_key(*fields) for x in row]
 
 
+def gates_of_three(numbers):
+    """The gate records of a list, three numbers each. One or two left over are no gate."""
+    return [Gate(*numbers[at : at + 3]) for at in range(0, len(numbers) - 2, 3)]
+
+
+def gates_answer(number, lent, rules):
+    """The answer of a call on gate records, and the buffers that it leaves."""
+    p, inputs, numbers, *buffers = lent
+    do = engine.plan if number == PLAN_GATES else engine.evaluate
+    answer = do(p, inputs, gates_of_three(numbers), *buffers, rules)
+    return [*answer, *(x for at in WRITTEN[number] for x in lent[at])]
+
+
 def file_answer(number, lent, rules):
     """The answer of a call on a circuit file, and the bytes that it leaves."""
     data = bytes(lent[0])
@@ -145,6 +165,8 @@ def answered(call, rules=PAPER):
         return list(engine.check_key(*lent))
     if number == MAKE_SWITCHING_KEY:
         return [*engine.make_switching_key(*lent), *lent[-1]]
+    if number in (PLAN_GATES, EVALUATE_GATES):
+        return gates_answer(number, lent, rules)
     if number == PLAN:
         return [*engine.plan_lists(*lent, rules), *lent[-1]]
     if number == EVALUATE:

@@ -6,21 +6,24 @@ import circuit
 import engine
 from engine import Gate
 from replay_batch import REFUSALS
-from replay_format import (AND, CHECK_BENCH_KEY, CHECK_FILE, EVALUATE, MAKE_BENCH_KEY,
-                           MAKE_SWITCHING_KEY, NAMES, PLAN, PLAN_FILE, PRINT_FILE, answered)
+from replay_format import (AND, CHECK_BENCH_KEY, CHECK_FILE, EVALUATE, EVALUATE_GATES,
+                           MAKE_BENCH_KEY, MAKE_SWITCHING_KEY, NAMES, PLAN, PLAN_FILE, PLAN_GATES,
+                           PRINT_FILE, answered)
 
 ENOUGH = 50        # how often each number of a call is to be seen in a batch of ENOUGH_IN
 ENOUGH_WIDE = 100  # and how many ANDs whose S passes 2^63
 ENOUGH_IN = 20000
 
-ENOUGH_CIRCUITS = 5000     # the same of the two calls on circuits, in a batch of so many of them
+ENOUGH_CIRCUITS = 5000     # the same of the calls on circuits, in a batch of so many of them
 ENOUGH_WITH_AN_AND = 1000  # and how many that are accepted and have an AND
 
 # The same of the three calls on files, and of texts that just fit and just do not.
 ENOUGH_FILES = 5000
 
 CIRCUIT_CALLS = (PLAN, EVALUATE)
+RECORD_CALLS = (PLAN_GATES, EVALUATE_GATES)
 FILE_CALLS = (CHECK_FILE, PLAN_FILE, PRINT_FILE)
+SINGLE_CALLS = [kind for kind in NAMES if kind not in CIRCUIT_CALLS + RECORD_CALLS + FILE_CALLS]
 
 
 def number_of(call, answer):
@@ -205,14 +208,13 @@ class Tally:
 
     def lacks(self):
         """What a batch that is large enough has shown too seldom."""
-        single = [kind for kind in NAMES if kind not in CIRCUIT_CALLS + FILE_CALLS]
         few = []
-        if self.total(single) >= ENOUGH_IN:
-            few += self.seldom(ENOUGH, single)
+        if self.total(SINGLE_CALLS) >= ENOUGH_IN:
+            few += self.seldom(ENOUGH, SINGLE_CALLS)
             if self.wide < ENOUGH_WIDE:
                 few.append(f"fewer than {ENOUGH_WIDE} ANDs with some |S| of 2^63 or more")
         if self.total([EVALUATE]) >= ENOUGH_CIRCUITS:
-            few += self.seldom(ENOUGH, CIRCUIT_CALLS)
+            few += self.seldom(ENOUGH, CIRCUIT_CALLS + RECORD_CALLS)
             if sum(self.circuits.with_an_and.values()) < ENOUGH_WITH_AN_AND:
                 few.append(f"fewer than {ENOUGH_WITH_AN_AND} circuits with an AND were evaluated")
         if self.total([CHECK_FILE]) >= ENOUGH_FILES:
