@@ -69,7 +69,7 @@ module _ (call : List ℤ) (at : ℕ) where
       by-room false e = absurd (not-suc-le-zero (rw (fitting-over 5200 (gatesOf xs) (leb-false (length (gatesOf xs)) 5200 e)) at h))
 
   -- it is among the list's gates, and its numbers are the list's
-  pub gate-among : {i : ℕ} → i < length (lentGates call at) → i < length xs / 3
+  gate-among : {i : ℕ} → i < length (lentGates call at) → i < length xs / 3
   gate-among h = rw (fitted h .0, length-gates) at h
 
   pub gate-within : {i : ℕ} → i < length (lentGates call at) → i * 3 + 2 < length xs
