@@ -8,10 +8,10 @@
 
 --speak answers calls, --make writes a random batch, --compare makes a batch and has
 both programs answer it. A batch has --count calls on sets, keys and ciphertexts, then
---circuits circuits, planning and evaluation of each, and then --files circuit files, check, planning
-and printing of each; --compare adds the largest circuit and the largest file. --write writes the batch
-of the gate, with this program's answers, beside the source of `replay`, and --check fails where
-the stored ones are others.
+--circuits circuits, planning and evaluation of each over three lists and over gate records, and then
+--files circuit files, check, planning and printing of each; --compare adds the largest circuit and the
+largest file. --write writes the batch of the gate, with this program's answers, beside the source of
+`replay`, and --check fails where the stored ones are others.
 The exit status is 1 on a difference, and where a batch shows too little.
 """
 

@@ -1,96 +1,31 @@
-// The calls on circuits. Each takes the call's numbers, and puts its answer into the text.
+// The calls on circuits, whose gates are lent in three lists or as records. Each takes the call's numbers, and puts its answer into the
+// text.
 ghost use mathlib.Core.Path.{_≡_};
 ghost use lib.ListN.{length};
 ghost use Rattle.stream.specs.Bounds.{Placed};
+use crate::lending;
 use crate::lent;
 use crate::print;
 use crate::read::MIDDLE;
 use crate::read::WIRES;
-use crate::recorded;
-use refusal::Params;
+use refusal::Refusal;
 
-// Plans in `bounds`; puts the answer and `bounds`.
-fn put_planned(
-    text: &mut [u8],
-    at: usize,
-    p: Params,
-    inputs: u32,
-    kinds: &[u32],
-    lefts: &[u32],
-    rights: &[u32],
-    bounds: &mut [u32],
-) -> usize
-    ensures { λ r. ⌜ Placed r (now (text .entry)) (now (text .exit)) ⌝ }
-{
-    let answer = circuit::plan::plan(p, inputs, kinds, lefts, rights, bounds);
-    let to = print::refusal(text, at, answer);
-    print::words(text, to, bounds)
+// Calls 17 and 18 have their gates in one list, as records, calls 12 and 13 in three.
+fn is_recorded(call: &[i64]) -> bool {
+    lent::word(call, 0) >= 17
 }
 
-// Call 12: a parameter set, the number of inputs, the gates in three lists, and the bounds as found.
-pub fn plan(call: &[i64], text: &mut [u8], at: usize) -> usize
-    ensures { λ r. ⌜ Placed r (now (text .entry)) (now (text .exit)) ⌝ }
-{
-    let mut kinds = [0u32; WIRES];
-    let mut lefts = [0u32; WIRES];
-    let mut rights = [0u32; WIRES];
-    let mut bounds = [0u32; WIRES];
-    let p = lent::params(call);
-    let inputs = lent::word(call, 6);
-    let at_lefts = lent::past(call, 7);
-    let at_rights = lent::past(call, at_lefts);
-    let at_bounds = lent::past(call, at_rights);
-    let k = lent::words(call, 7, &mut kinds);
-    let l = lent::words(call, at_lefts, &mut lefts);
-    let r = lent::words(call, at_rights, &mut rights);
-    let b = lent::words(call, at_bounds, &mut bounds);
-    put_planned(
-        text,
-        at,
-        p,
-        inputs,
-        &kinds[0..k],
-        &lefts[0..l],
-        &rights[0..r],
-        &mut bounds[0..b],
-    )
+// The place after the gates.
+fn past_gates(call: &[i64]) -> usize {
+    let first = lent::past(call, 7);
+    if is_recorded(call) {
+        return first;
+    }
+    lent::past(call, lent::past(call, first))
 }
 
-// Evaluates in `wires`, `bounds` and `scratch`; puts the answer and the three of them.
-fn put_evaluated(
-    text: &mut [u8],
-    at: usize,
-    p: Params,
-    inputs: u32,
-    kinds: &[u32],
-    lefts: &[u32],
-    rights: &[u32],
-    wires: &mut [i64],
-    bounds: &mut [u32],
-    key: &[i64],
-    scratch: &mut [i64],
-) -> usize
-    ensures { λ r. ⌜ Placed r (now (text .entry)) (now (text .exit)) ⌝ }
-{
-    let answer = evaluation::evaluate(p, inputs, kinds, lefts, rights, wires, bounds, key, scratch);
-    let to = print::refusal(text, at, answer);
-    let after = print::entries(text, to, wires);
-    let end = print::words(text, after, bounds);
-    print::entries(text, end, scratch)
-}
-
-// Call 13 with its gates, on what else it borrows.
-fn put_listed(
-    call: &[i64],
-    text: &mut [u8],
-    at: usize,
-    wires: &mut [i64],
-    bounds: &mut [u32],
-    key: &[i64],
-    scratch: &mut [i64],
-) -> usize
-    ensures { λ r. ⌜ Placed r (now (text .entry)) (now (text .exit)) ⌝ }
-{
+// Plans, with the gates in three lists.
+fn plan_listed(call: &[i64], bounds: &mut [u32]) -> Refusal {
     let mut kinds = [0u32; WIRES];
     let mut lefts = [0u32; WIRES];
     let mut rights = [0u32; WIRES];
@@ -98,9 +33,69 @@ fn put_listed(
     let k = lent::words(call, 7, &mut kinds);
     let l = lent::words(call, at_lefts, &mut lefts);
     let r = lent::words(call, lent::past(call, at_lefts), &mut rights);
-    put_evaluated(
-        text,
-        at,
+    circuit::plan::plan(
+        lent::params(call),
+        lent::word(call, 6),
+        &kinds[0..k],
+        &lefts[0..l],
+        &rights[0..r],
+        bounds,
+    )
+}
+
+// Plans, with the gates as records.
+fn plan_recorded(call: &[i64], bounds: &mut [u32]) -> Refusal {
+    lending::plan(
+        lent::params(call),
+        lent::word(call, 6),
+        lent::gates(call, 7),
+        lent::gate_count(call, 7),
+        bounds,
+    )
+}
+
+// Plans.
+fn planned(call: &[i64], bounds: &mut [u32]) -> Refusal {
+    if is_recorded(call) {
+        return plan_recorded(call, bounds);
+    }
+    plan_listed(call, bounds)
+}
+
+// Plans in `bounds`; puts the answer and `bounds`.
+fn put_planned(call: &[i64], text: &mut [u8], at: usize, bounds: &mut [u32]) -> usize
+    ensures { λ r. ⌜ Placed r (now (text .entry)) (now (text .exit)) ⌝ }
+{
+    let answer = planned(call, bounds);
+    let to = print::refusal(text, at, answer);
+    print::words(text, to, bounds)
+}
+
+// Calls 12 and 17: a parameter set, the number of inputs, the gates, and the bounds as found.
+pub fn plan(call: &[i64], text: &mut [u8], at: usize) -> usize
+    ensures { λ r. ⌜ Placed r (now (text .entry)) (now (text .exit)) ⌝ }
+{
+    let mut bounds = [0u32; WIRES];
+    let b = lent::words(call, past_gates(call), &mut bounds);
+    put_planned(call, text, at, &mut bounds[0..b])
+}
+
+// Evaluates, with the gates in three lists.
+fn evaluate_listed(
+    call: &[i64],
+    wires: &mut [i64],
+    bounds: &mut [u32],
+    key: &[i64],
+    scratch: &mut [i64],
+) -> Refusal {
+    let mut kinds = [0u32; WIRES];
+    let mut lefts = [0u32; WIRES];
+    let mut rights = [0u32; WIRES];
+    let at_lefts = lent::past(call, 7);
+    let k = lent::words(call, 7, &mut kinds);
+    let l = lent::words(call, at_lefts, &mut lefts);
+    let r = lent::words(call, lent::past(call, at_lefts), &mut rights);
+    evaluation::evaluate(
         lent::params(call),
         lent::word(call, 6),
         &kinds[0..k],
@@ -113,22 +108,42 @@ fn put_listed(
     )
 }
 
-// Call 18 has its gates in one list, call 13 in three.
-fn is_recorded(call: &[i64]) -> bool {
-    lent::word(call, 0) == 18
+// Evaluates, with the gates as records.
+fn evaluate_recorded(
+    call: &[i64],
+    wires: &mut [i64],
+    bounds: &mut [u32],
+    key: &[i64],
+    scratch: &mut [i64],
+) -> Refusal {
+    lending::evaluate(
+        lent::params(call),
+        lent::word(call, 6),
+        lent::gates(call, 7),
+        lent::gate_count(call, 7),
+        wires,
+        bounds,
+        key,
+        scratch,
+    )
 }
 
-// The place after the gates.
-fn past_gates(call: &[i64]) -> usize {
-    let first = lent::past(call, 7);
+// Evaluates.
+fn evaluated(
+    call: &[i64],
+    wires: &mut [i64],
+    bounds: &mut [u32],
+    key: &[i64],
+    scratch: &mut [i64],
+) -> Refusal {
     if is_recorded(call) {
-        return first;
+        return evaluate_recorded(call, wires, bounds, key, scratch);
     }
-    lent::past(call, lent::past(call, first))
+    evaluate_listed(call, wires, bounds, key, scratch)
 }
 
-// Either call with its gates, on what else it borrows.
-fn put_call(
+// Evaluates in `wires`, `bounds` and `scratch`; puts the answer and the three of them.
+fn put_evaluated(
     call: &[i64],
     text: &mut [u8],
     at: usize,
@@ -139,10 +154,11 @@ fn put_call(
 ) -> usize
     ensures { λ r. ⌜ Placed r (now (text .entry)) (now (text .exit)) ⌝ }
 {
-    if is_recorded(call) {
-        return recorded::put_call(call, text, at, wires, bounds, key, scratch);
-    }
-    put_listed(call, text, at, wires, bounds, key, scratch)
+    let answer = evaluated(call, wires, bounds, key, scratch);
+    let to = print::refusal(text, at, answer);
+    let after = print::entries(text, to, wires);
+    let end = print::words(text, after, bounds);
+    print::entries(text, end, scratch)
 }
 
 // Calls 13 and 18: as calls 12 and 17, with the wires as found before the bounds, and a switching key
@@ -160,7 +176,7 @@ pub fn evaluate(call: &[i64], text: &mut [u8], at: usize, wires: &mut [i64]) -> 
     let n = lent::buffer(call, at_wires, wires);
     let b = lent::words(call, at_bounds, &mut bounds);
     let s = lent::buffer(call, lent::past(call, at_key), &mut scratch);
-    put_call(
+    put_evaluated(
         call,
         text,
         at,

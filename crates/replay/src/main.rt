@@ -11,7 +11,6 @@ mod lending;
 mod lent;
 mod print;
 mod read;
-mod recorded;
 mod sets;
 mod width;
 
@@ -37,12 +36,11 @@ fn answer(call: &[i64], text: &mut [u8], at: usize, long: &mut [i64]) -> usize
         9 => gate::xor(call, text, at),
         10 => gate::not(call, text, at),
         11 => gate::and(call, text, at),
-        12 => circuits::plan(call, text, at),
+        12 | 17 => circuits::plan(call, text, at),
         13 | 18 => circuits::evaluate(call, text, at, long),
         14 => files::check(call, text, at),
         15 => files::plan(call, text, at),
-        16 => files::print(call, text, at),
-        _ => recorded::plan(call, text, at),
+        _ => files::print(call, text, at),
     }
 }
 
