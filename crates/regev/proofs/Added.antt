@@ -15,19 +15,24 @@ use Rattle.modular.specs.Loans.{Modulus, Near, size-near}
 abbrev word : ℤ → ℤ
 word x = toZ w64 (ofZ w64 x)
 
-pub record Added (q : ℕ) (x y : ℤ) : Type 0 where
-  pub fits : SFits w64 (word x +ℤ word y)
-  pub near : Near q (word (word x +ℤ word y))
-  pub total : word (word x +ℤ word y) ≡ x +ℤ y
+module _ {q : ℕ} (x y : ℤ) (m : Modulus q) (h : natAbs x ≤ q / 2) (g : natAbs y ≤ q / 2) where
+  size : natAbs (x +ℤ y) ≤ q
+  size = omega (arith, size-add x y)
 
-pub added : {q : ℕ} (x y : ℤ) → Modulus q → natAbs x ≤ q / 2 → natAbs y ≤ q / 2 → Added q x y
-added {q} x y m h g =
-    let size : natAbs (x +ℤ y) ≤ q = omega (arith, size-add x y) in
-    let f : SFits w64 x = fits64 x (omega (arith, m .high)) in
-    let k : SFits w64 y = fits64 y (omega (arith, m .high)) in
-    let s : SFits w64 (x +ℤ y) = fits64 (x +ℤ y) (omega (arith, m .high)) in
-    record {
-      fits = simp (toZ-ofZ, f, k) s;
-      near = simp (toZ-ofZ, f, k, s) (size-near q (x +ℤ y) (m .positive) size);
-      total = simp (toZ-ofZ, f, k, s);
-    }
+  left : SFits w64 x
+  left = fits64 x (omega (arith, m .high))
+
+  right : SFits w64 y
+  right = fits64 y (omega (arith, m .high))
+
+  whole : SFits w64 (x +ℤ y)
+  whole = fits64 (x +ℤ y) (omega (arith, size, m .high))
+
+  pub sum-fits : SFits w64 (word x +ℤ word y)
+  sum-fits = rw (toZ-ofZ left, toZ-ofZ right) whole
+
+  pub sum-is : word (word x +ℤ word y) ≡ x +ℤ y
+  sum-is = rw (toZ-ofZ left, toZ-ofZ right) (toZ-ofZ whole)
+
+  pub sum-near : Near q (word (word x +ℤ word y))
+  sum-near = rw sum-is (size-near q (x +ℤ y) (m .positive) size)

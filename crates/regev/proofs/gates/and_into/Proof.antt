@@ -12,7 +12,7 @@ use Rattle.regev.proofs.gates.and_into.Tie as tie
 fill-tensor-requires : tie.Need-fill-tensor-requires
 fill-tensor-requires c κs =
     let r = c .before .pre in
-    (r .0, r .6, r .7, rw (r .2, r .3) (r .4), omega arith, omega arith)
+    (r .0, (search), (search), rw (r .2, r .3) (r .4), omega arith, omega arith)
 
 -- the tensor fills the scratch
 long : (t : tie.After-fill-tensor) → length (t .fill-tensor .last .1 .1 .1 .0) ≡ length (t .before .before .args .scratch .now)
@@ -27,7 +27,7 @@ fill-switch-requires c κs =
       r .1,
       long t ∙ r .4,
       rw (long t, r .4) (r .5),
-      rw (t .fill-tensor .ensures) (tensor-residues (s .args .q) (s .args .c .now) (s .args .d .now) (r .0 .positive) (r .0 .even)),
+      rw (t .fill-tensor .ensures) (tensor-residues _ _ _ (r .0 .positive) (r .0 .even)),
       r .8,
     )
 

@@ -1,11 +1,13 @@
 -- `regev::gates::not_into` writes the NOT of c: out is a copy of c, in which entry 0 is then [c_0 + q/2]q.
--- c_0 is a residue, at most q/2 in size, so that `Residue::near` reduces the sum (`Added`). Assumes nothing.
+-- c_0 is a residue, at most q/2 in size, and so is q divided by 2 or more (`share`): `Residue::near` reduces their sum (`Added`). Assumes nothing.
 use mathlib.Core.Path.{_≡_, refl, ap, _∙_}
 use mathlib.Core.List.{List, [], _∷_}
-use Prim.Native.Nat.{ℕ, _<_}
+use Prim.Native.Nat.{ℕ, _/_, _≤_, _<_}
 use native.Mathlib.Omega.{arith}
-use lib.IntN.{ℤ, pos, _+ℤ_}
+use native.Mathlib.Nat.{mul-le-mul-left, le-div-iff-mul-le, div-mul-le-self}
+use lib.IntN.{ℤ, pos, _+ℤ_, natAbs}
 use lib.Signed.{quotZ}
+use lib.Dec.{lit≤}
 use lib.ListN.{length, getD, set}
 use mir.Syntax.{w64}
 use mir.Val.{toZ}
@@ -17,7 +19,7 @@ use Rattle.whole.specs.Machine.{fits64}
 use Rattle.scheme.specs.Arithmetic.{half, isResidue, NOT}
 use Rattle.scheme.specs.Wording.{residue-size}
 use Rattle.modular.specs.Loans.{Modulus}
-use Rattle.regev.proofs.Added.{Added, added}
+use Rattle.regev.proofs.Added.{sum-fits, sum-near, sum-is}
 use Rattle.regev.proofs.gates.not_into.Statement.{statement}
 use Rattle.regev.proofs.gates.not_into.Tie as tie
 
@@ -27,28 +29,32 @@ unfolding NOT
 not-set q [] h = absurd (omega arith)
 not-set q (x ∷ c) h = refl
 
--- q/2 as the code divides
-half-is : {q : ℕ} → Modulus q → quotZ (toZ w64 q) (pos 2) ≡ half q
-half-is {q} m = ap (λ (x : ℤ). quotZ x (pos 2)) (toZ-pos w64 {n = q} (omega (arith, m .high)))
+-- q as the code has it
+modulus-is : {q : ℕ} → Modulus q → toZ w64 q ≡ pos q
+modulus-is {q} m = toZ-pos w64 (omega (arith, m .high))
 
--- the sum of the two
-sum : (c : tie.After-near-arg) → (let s = c .before .before .before .before .args in Added (s .q) (getD (s .c .now) 0 (pos 0)) (quotZ (toZ w64 (s .q)) (pos 2)))
-sum c =
-    let s = c .before .before .before .before in
-    let q = s .args .q in
-    let d = s .args .c .now in
-    rw (half-is (s .pre .0)) (added _ _ (s .pre .0) (residue-size q _ (all-getD (isResidue q) d 0 (pos 0) (s .pre .3) (omega arith))) (omega arith))
+-- q divided by 2 or more is at most q/2
+share : (q k : ℕ) → 2 ≤ k → q / k ≤ q / 2
+share q k h = le-div-iff-mul-le {k = 2} {x = q / k} {y = q} (omega arith) .1 (omega (arith, mul-le-mul-left (q / k) h, div-mul-le-self q k))
+
+-- entry 0 of c is a residue
+first-size : (c : tie.Start) → natAbs (getD (c .args .c .now) 0 (pos 0)) ≤ c .args .q / 2
+first-size c = residue-size _ _ (all-getD (isResidue (c .args .q)) (c .args .c .now) 0 (pos 0) (c .pre .3) (omega arith))
 
 div-half : tie.Need-div-half
 div-half c =
     let m = c .before .before .before .pre .0 in
-    (omega arith, rw (half-is m) (fits64 (half (c .before .before .before .args .q)) (omega (arith, m .high))))
+    (omega arith, rw (modulus-is m) (fits64 _ (omega (arith, m .high))))
 
 add-near : tie.Need-add-near
-add-near c = sum c .fits
+add-near c =
+    let s = c .before .before .before .before in
+    rw (modulus-is (s .pre .0)) (search (sum-fits, s .pre .0, first-size s, share, lit≤))
 
 near-requires : tie.Need-near-requires
-near-requires c κs = (c .before .before .before .before .pre .0, sum c .near)
+near-requires c κs =
+    let s = c .before .before .before .before in
+    (s .pre .0, rw (modulus-is (s .pre .0)) (search (sum-near, s .pre .0, first-size s, share, lit≤)))
 
 returns : tie.Need-returns
 returns c =
@@ -60,8 +66,8 @@ returns c =
     ap (set (k .last .1 .0) 0)
     (toZ-ofZ (sfits-of (c .value .ok))
     ∙ c .value .ensures
-    ∙ c .before .near .ensures
-    ∙ ap (centred q) (sum a .total ∙ ap (λ (h : ℤ). getD d 0 (pos 0) +ℤ h) (half-is (s .pre .0))))
+    ∙ (rw (modulus-is (s .pre .0)) at (c .before .near .ensures))
+    ∙ ap (centred q) (sum-is (getD d 0 (pos 0)) (half q) (s .pre .0) (first-size s) (omega arith)))
     ∙ rw (k .ensures) (not-set q d (omega arith))
 
 pub not-into-spec : {M : Type 1} → statement M

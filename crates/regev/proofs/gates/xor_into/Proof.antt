@@ -14,7 +14,7 @@ use Rattle.whole.specs.Centred.{centred}
 use Rattle.whole.specs.Lists.{all, all-getD, length-zipWith, getD-zipWith, Filled, fill-start, fill-step, fill-end}
 use Rattle.scheme.specs.Arithmetic.{isResidue, XOR}
 use Rattle.scheme.specs.Wording.{residue-size}
-use Rattle.regev.proofs.Added.{Added, added}
+use Rattle.regev.proofs.Added.{sum-fits, sum-near, sum-is}
 use Rattle.regev.proofs.gates.xor_into.Statement.{statement}
 use Rattle.regev.proofs.gates.xor_into.Tie as tie
 
@@ -35,20 +35,26 @@ Inv-loop q c d out₀ i₀ out i = Filled (XOR q c d) out₀ out i
 abbrev μ-loop : tie.MeasureT-loop
 μ-loop q c d out₀ i₀ out i = length out₀ - i
 
--- the sum of a turn
-sum : (c : tie.In-loop Inv-loop μ-loop)
-    → (let s = c .before .before .args in let i = c .before .loop .i in Added (s .q) (getD (s .c .now) i (pos 0)) (getD (s .d .now) i (pos 0)))
-sum c =
-    let s = c .before .before in
-    let q = s .args .q in
-    let i = c .before .loop .i in
-    added _ _ (s .pre .0) (entry-size q (s .args .c .now) i (s .pre .3) (omega arith)) (entry-size q (s .args .d .now) i (s .pre .4) (omega arith))
+-- the entries of a turn
+module _ (c : tie.In-loop Inv-loop μ-loop) where
+  left : natAbs (getD (c .before .before .args .c .now) (c .before .loop .i) (pos 0)) ≤ c .before .before .args .q / 2
+  left = entry-size _ _ _ (c .before .before .pre .3) (omega arith)
+
+  right : natAbs (getD (c .before .before .args .d .now) (c .before .loop .i) (pos 0)) ≤ c .before .before .args .q / 2
+  right = entry-size _ _ _ (c .before .before .pre .4) (omega arith)
 
 loop-holds : tie.Need-loop-holds Inv-loop μ-loop
 loop-holds c = fill-start _ _ (length-xor _ _ _ (c .pre .1 ∙ sym (c .pre .2)) ∙ c .pre .1)
 
+add-near : tie.Need-add-near Inv-loop μ-loop
+add-near c =
+    let t = c .before .before in
+    search (sum-fits, t .before .before .pre .0, left t, right t)
+
 near-requires : tie.Need-near-requires Inv-loop μ-loop
-near-requires c κs = (c .before .before .before .before .pre .0, sum (c .before .before) .near)
+near-requires c κs =
+    let t = c .before .before in
+    (t .before .before .pre .0, search (sum-near, t .before .before .pre .0, left t, right t))
 
 loop-again : tie.Need-loop-again Inv-loop μ-loop
 loop-again c =
@@ -59,7 +65,7 @@ loop-again c =
     (toZ-ofZ (sfits-of (c .value .ok))
     ∙ c .value .ensures
     ∙ c .before .near .ensures
-    ∙ ap (centred (s .q)) (sum t .total)
+    ∙ ap (centred (s .q)) (sum-is (getD (s .c .now) (l .loop .i) (pos 0)) (getD (s .d .now) (l .loop .i) (pos 0)) (l .before .pre .0) (left t) (right t))
     ∙ sym (getD-xor (s .q) (s .c .now) (s .d .now) (l .loop .i) (omega arith) (omega arith)))
 
 same-length : tie.Need-same-length Inv-loop μ-loop
@@ -67,9 +73,6 @@ same-length c = c .before .loop .inv .kept
 
 returns : tie.Need-returns Inv-loop μ-loop
 returns c = fill-end (c .before .loop .inv) (omega arith)
-
-add-near : tie.Need-add-near Inv-loop μ-loop
-add-near c = sum (c .before .before) .fits
 
 pub xor-into-spec : {M : Type 1} → statement M
 xor-into-spec =
