@@ -72,7 +72,7 @@ fill-row-requires c κs =
     let s = l .before in
     let h : l .loop .at + length (s .args .d .now) ≤ length (l .loop .out) = omega (arith, inside (c .before .before)) in (
       s .pre .0,
-      simp (toZ-ofZ, sfits-of {w = w64} {z = getD (s .args .c .now) (l .loop .u) (pos 0)} (c .before .fill-row-arg .given)) (all-getD (isResidue (s .args .q)) (s .args .c .now) (l .loop .u) (pos 0) (s .pre .1) (c .before .before .loop-test .taken)),
+      rw (toZ-ofZ (sfits-of (c .before .fill-row-arg .given))) (all-getD _ _ _ (pos 0) (s .pre .1) (omega arith)),
       reciprocal-back s,
       s .pre .2,
       mid-len (l .loop .at) (l .loop .at + length (s .args .d .now)) (l .loop .out) h ∙ add-sub-cancel-left (l .loop .at) (length (s .args .d .now)),
