@@ -22,14 +22,6 @@ use Rattle.modular.specs.Loans.{UpTo}
 use Rattle.keys.proofs.switching.row_zero_entry.Statement.{statement}
 use Rattle.keys.proofs.switching.row_zero_entry.Tie as tie
 
--- q·a·b for entries a and b of a key
-module _ (q L : ℕ) (a b : ℤ) (h : q ≤ 1048576) (l : L ≤ 4096) (g : natAbs a ≤ L) (k : natAbs b ≤ L) where
-  first-size : natAbs (pos q *ℤ a) ≤ 4294967296
-  first-size = omega (arith, size-mul (pos q) a, mul-le-mul h (le-trans g l))
-
-  product-size : natAbs (pos q *ℤ a *ℤ b) ≤ 17592186044416
-  product-size = omega (arith, size-mul (pos q *ℤ a) b, mul-le-mul first-size (le-trans k l))
-
 -- <s',mask column j>
 column-size : (s masks : List ℤ) (j : ℕ) → sizes s ≤ 4096 → length masks ≡ (length s - 1) * (length s * length s) → UpTo 549755813888 masks → j < length s * length s
     → natAbs (inner (drop 1 s) (maskColumn (length s) masks j)) ≤ 2251799813685248
@@ -46,43 +38,46 @@ rest s = take-all (length s - 1) (drop 1 s) (omega (arith, length-drop 1 s))
 row-of : (c : tie.Start) → c .args .j / length (c .args .s .now) < length (c .args .s .now)
 row-of c = div-lt-iff-lt-mul {k = length (c .args .s .now)} {x = c .args .j} (omega arith) .1 (omega arith)
 
-place-of : (c : tie.Start) → c .args .j % length (c .args .s .now) < length (c .args .s .now)
-place-of c = mod-lt (c .args .j) (omega arith)
+-- a remainder by n is a place of s
+place-of : (c : tie.Start) (k : ℕ) → k % length (c .args .s .now) < length (c .args .s .now)
+place-of c k = mod-lt k (omega arith)
 
-abbrev su : tie.Start → ℤ
-su c = getD (c .args .s .now) (c .args .j / length (c .args .s .now)) (pos 0)
+abbrev entry : tie.Start → ℕ → ℤ
+entry c u = getD (c .args .s .now) u (pos 0)
 
-abbrev sv : tie.Start → ℤ
-sv c = getD (c .args .s .now) (c .args .j % length (c .args .s .now)) (pos 0)
+-- q·su at any place u, and as the machine has it
+module _ (c : tie.Start) (u : ℕ) where
+  entry-small : natAbs (entry c u) ≤ 4096
+  entry-small = le-trans (entry-size _ _) (c .pre .3)
 
-module _ (c : tie.Start) where
-  first-fits : SFits w64 (pos (c .args .q) *ℤ su c)
-  first-fits = fits64 _ (omega (arith, first-size (c .args .q) (sizes (c .args .s .now)) (su c) (sv c) (c .pre .0 .high) (c .pre .3) (entry-size _ _) (entry-size _ _)))
+  first-small : natAbs (pos (c .args .q) *ℤ entry c u) ≤ 4294967296
+  first-small = omega (arith, size-mul (pos (c .args .q)) (entry c u), mul-le-mul (c .pre .0 .high) entry-small)
 
-  product-small : natAbs (pos (c .args .q) *ℤ su c *ℤ sv c) ≤ 17592186044416
-  product-small = product-size (c .args .q) (sizes (c .args .s .now)) (su c) (sv c) (c .pre .0 .high) (c .pre .3) (entry-size _ _) (entry-size _ _)
+  first-fits : SFits w64 (pos (c .args .q) *ℤ entry c u)
+  first-fits = fits64 _ (omega (arith, first-small))
 
-  product-fits : SFits w64 (pos (c .args .q) *ℤ su c *ℤ sv c)
+  abbrev machine-first : ℤ
+  machine-first = toZ w64 (c .args .q) *ℤ word w64 (word w32 (entry c u))
+
+  first-is : SFits w32 (entry c u) → machine-first ≡ pos (c .args .q) *ℤ entry c u
+  first-is f = ap₂ _*ℤ_ (toZ-pos w64 {n = c .args .q} (omega (arith, c .pre .0 .high))) (widened f)
+
+-- q·su·sv at any places u and v, and as the machine has it
+module _ (c : tie.Start) (u v : ℕ) where
+  abbrev product : ℤ
+  product = pos (c .args .q) *ℤ entry c u *ℤ entry c v
+
+  product-small : natAbs product ≤ 17592186044416
+  product-small = omega (arith, size-mul (pos (c .args .q) *ℤ entry c u) (entry c v), mul-le-mul (first-small c u) (entry-small c v))
+
+  product-fits : SFits w64 product
   product-fits = fits64 _ (omega (arith, product-small))
 
-su-fits : (c : tie.After-product) → SFits w32 (su (c .before))
-su-fits c = sfits-of (c .product .given)
+  abbrev machine-product : ℤ
+  machine-product = word w64 (machine-first c u) *ℤ word w64 (word w32 (entry c v))
 
-sv-fits : (c : tie.After-product2) → SFits w32 (sv (c .before .before))
-sv-fits c = sfits-of (c .product2 .given)
-
--- as the machine has it
-abbrev machine-first : tie.Start → ℤ
-machine-first c = toZ w64 (c .args .q) *ℤ word w64 (word w32 (su c))
-
-abbrev machine-product : tie.Start → ℤ
-machine-product c = word w64 (machine-first c) *ℤ word w64 (word w32 (sv c))
-
-first-is : (c : tie.After-product) → machine-first (c .before) ≡ pos (c .before .args .q) *ℤ su (c .before)
-first-is c = ap₂ _*ℤ_ (toZ-pos w64 {n = c .before .args .q} (omega (arith, c .before .pre .0 .high))) (widened (su-fits c))
-
-product-is : (c : tie.After-product2) → let s = c .before .before in machine-product s ≡ pos (s .args .q) *ℤ su s *ℤ sv s
-product-is c = ap₂ _*ℤ_ (word-is (first-is (c .before)) (first-fits (c .before .before))) (widened (sv-fits c))
+  product-is : SFits w32 (entry c u) → SFits w32 (entry c v) → machine-product ≡ product
+  product-is f g = ap₂ _*ℤ_ (word-is (first-is c u f) (first-fits c u)) (widened g)
 
 mul-product : tie.Need-mul-product
 mul-product c = omega (arith, row-of c)
@@ -91,22 +86,24 @@ shared-slice-copy-out-product : tie.Need-shared-slice-copy-out-product
 shared-slice-copy-out-product c = row-of c
 
 cast-product-2 : tie.Need-cast-product-2
-cast-product-2 c = sfits-word (su-fits c)
+cast-product-2 c = sfits-word {z = entry (c .before) _} (sfits-of (c .product .given))
 
 mul-product-2 : tie.Need-mul-product-2
-mul-product-2 c = rw (first-is c) (first-fits (c .before))
+mul-product-2 c = rw (first-is (c .before) _ (sfits-of (c .product .given))) (first-fits (c .before) _)
 
 mul-product-3 : tie.Need-mul-product-3
-mul-product-3 c = omega (arith, place-of (c .before))
+mul-product-3 c = search (needs, place-of (c .before))
 
 shared-slice-copy-out-product-2 : tie.Need-shared-slice-copy-out-product-2
-shared-slice-copy-out-product-2 c = place-of (c .before)
+shared-slice-copy-out-product-2 c = place-of (c .before) _
 
 cast-product-3 : tie.Need-cast-product-3
-cast-product-3 c = sfits-word (sv-fits c)
+cast-product-3 c = sfits-word {z = entry (c .before .before) _} (sfits-of (c .product2 .given))
 
 mul-product-4 : tie.Need-mul-product-4
-mul-product-4 c = rw (product-is c) (product-fits (c .before .before))
+mul-product-4 c =
+    let s = c .before .before in
+    rw (product-is s _ _ (sfits-of (c .before .product .given)) (sfits-of (c .product2 .given))) (product-fits s _ _)
 
 -- ---- less the inner product, and the error
 
@@ -119,10 +116,7 @@ inner-column-requires c κs =
     let s = c .before .before .before .args .s .now in
     simp (rest, length-drop) (p .4, p .7, omega (arith, sizes-drop s 1), p .5)
 
--- the three terms
-abbrev product-of : tie.After-inner-column → ℤ
-product-of c = let s = c .before .before .before .before in pos (s .args .q) *ℤ su s *ℤ sv s
-
+-- the other two terms
 abbrev column-of : tie.After-inner-column → ℤ
 column-of c =
     let args = c .before .before .before .before .args in
@@ -137,37 +131,49 @@ module _ (c : tie.After-inner-column) where
       let start = c .before .before .before .before in
       column-size (start .args .s .now) (start .args .masks .now) (start .args .j) (start .pre .3) (start .pre .4) (start .pre .5) (start .pre .7)
 
-  column-fits : SFits w64 (column-of c)
-  column-fits = fits64 _ (omega (arith, column-small))
+  column-is : word w64 (c .inner-column .result) ≡ column-of c
+  unfolding maskColumn
+  column-is = word-is (c .inner-column .ensures ∙ simp (rest, length-drop)) (fits64 (column-of c) (omega (arith, column-small)))
 
-  less-small : natAbs (product-of c -ℤ column-of c) ≤ 2269391999729664
-  less-small = omega (arith, size-sub (product-of c) (column-of c), product-small (c .before .before .before .before), column-small)
+-- the sums, with q·su·sv at any places u and v, and as the machine has them
+module _ (c : tie.After-inner-column) (u v : ℕ) where
+  abbrev less : ℤ
+  less = product (c .before .before .before .before) u v -ℤ column-of c
 
-  less-fits : SFits w64 (product-of c -ℤ column-of c)
+  less-small : natAbs less ≤ 2269391999729664
+  less-small =
+      let s = c .before .before .before .before in
+      omega (arith, size-sub (product s u v) (column-of c), product-small s u v, column-small c)
+
+  less-fits : SFits w64 less
   less-fits = fits64 _ (omega (arith, less-small))
 
-  total-fits : SFits w64 (product-of c -ℤ column-of c +ℤ error-of c)
-  total-fits = fits64 _ (omega (arith, size-add (product-of c -ℤ column-of c) (error-of c), less-small, c .before .before .before .before .pre .6))
+  total-fits : SFits w64 (less +ℤ error-of c)
+  total-fits = fits64 _ (omega (arith, size-add less (error-of c), less-small, c .before .before .before .before .pre .6))
 
-  column-is : c .inner-column .result ≡ column-of c
-  unfolding maskColumn
-  column-is = c .inner-column .ensures ∙ simp (rest, length-drop)
+  abbrev machine-less : ℤ
+  machine-less = word w64 (machine-product (c .before .before .before .before) u v) -ℤ word w64 (c .inner-column .result)
 
-  -- the sums as the machine has them
-  less-is : word w64 (machine-product (c .before .before .before .before)) -ℤ word w64 (c .inner-column .result) ≡ product-of c -ℤ column-of c
-  less-is = ap₂ _-ℤ_ (word-is (product-is (c .before .before)) (product-fits (c .before .before .before .before))) (word-is column-is column-fits)
+  module _ (f : SFits w32 (entry (c .before .before .before .before) u)) (g : SFits w32 (entry (c .before .before .before .before) v)) where
+    less-is : machine-less ≡ less
+    less-is =
+        let s = c .before .before .before .before in
+        ap₂ _-ℤ_ (word-is (product-is s u v f g) (product-fits s u v)) (column-is c)
 
-  total-is : word w64 (word w64 (machine-product (c .before .before .before .before)) -ℤ word w64 (c .inner-column .result)) +ℤ word w64 (error-of c) ≡ product-of c -ℤ column-of c +ℤ error-of c
-  total-is = ap₂ _+ℤ_ (word-is less-is less-fits) (toZ-ofZ (c .before .before .before .before .fits .error))
+    total-is : word w64 machine-less +ℤ word w64 (error-of c) ≡ less +ℤ error-of c
+    total-is = ap₂ _+ℤ_ (word-is less-is less-fits) (toZ-ofZ (c .before .before .before .before .fits .error))
 
 sub-of : tie.Need-sub-of
-sub-of c = rw (less-is c) (less-fits c)
+sub-of c = rw (less-is c _ _ (sfits-of (c .before .before .before .product .given)) (sfits-of (c .before .before .product2 .given))) (less-fits c _ _)
 
 add-of : tie.Need-add-of
-add-of c = rw (total-is c) (total-fits c)
+add-of c = rw (total-is c _ _ (sfits-of (c .before .before .before .product .given)) (sfits-of (c .before .before .product2 .given))) (total-fits c _ _)
 
 returns : tie.Need-returns
-returns c = c .of .ensures ∙ ap (centred _) (word-is (total-is (c .before)) (total-fits (c .before)))
+returns c =
+    let t = c .before in
+    c .of .ensures
+    ∙ ap (centred _) (word-is (total-is t _ _ (sfits-of (t .before .before .before .product .given)) (sfits-of (t .before .before .product2 .given))) (total-fits t _ _))
 
 pub row-zero-entry-spec : {M : Type 1} → statement M
 row-zero-entry-spec =
