@@ -1,18 +1,19 @@
 -- A row of the tensor as a line: for a fixed x, 2·x·y/q rounded is (slope·y + 2^41 + q)/2^42 rounded down (`line-rounds`), where the slope is
--- x·2^42 over q/2, at most 2 off: so it is had from 2^62 divided by q/2 (`shifted-slope`). Assumes nothing.
+-- x·2^42 over q/2, at most 2 off: so it is had from 2^62 divided by q/2 (`shifted-slope`). That it is at most q/2 in size follows from the
+-- sizes alone (`whole-small`). Assumes nothing.
 use mathlib.Core.Path.{_≡_, sym, ap, _∙_}
 use mathlib.Core.Bool.{true}
 use mathlib.Core.List.{[], _∷_}
 use Prim.Native.Nat.{ℕ, _+_, _*_, _/_, _%_, _≤_, _<_}
 use native.Mathlib.Omega.{arith}
-use native.Mathlib.Nat.{mul-le-mul, mul-comm, le-of-mul-le-mul-right, div-add-mod', mod-lt}
-use lib.IntN.{ℤ, pos, _+ℤ_, _-ℤ_, _*ℤ_, natAbs}
+use native.Mathlib.Nat.{mul-le-mul, mul-le-mul-right, lt-of-mul-lt-mul-right, mul-comm, div-add-mod', mod-lt}
+use lib.IntN.{ℤ, pos, negsuc, _+ℤ_, _-ℤ_, _*ℤ_, natAbs}
 use lib.Signed.{_≤ℤ_, _<ℤ_}
 use Rattle.whole.specs.Ring.{by-ring, from-eq, quote}
 use Rattle.whole.specs.Split.{zarith, add-is, sub-is, mul-is, size-is, apart}
-use Rattle.whole.specs.Size.{size-add, size-mul}
+use Rattle.whole.specs.Size.{size-mul}
 use Rattle.whole.specs.Floor.{Floor, times-lt, times-le, next-multiple}
-use Rattle.whole.specs.Round.{round, round-even, round-size}
+use Rattle.whole.specs.Round.{round, round-even}
 use Rattle.scheme.specs.Arithmetic.{isResidue}
 use Rattle.scheme.specs.Wording.{residue-size}
 use Rattle.modular.specs.Loans.{Modulus}
@@ -62,40 +63,9 @@ module _ (q : ℕ) (x slope : ℤ) (m : Modulus q) (rx : isResidue q x ≡ true)
   abbrev h : ℕ
   h = q / 2
 
-  -- the slope is at most 2^42 and 2 more in size, as |x| is at most q/2
-  slope-size : natAbs slope ≤ 4398046511106
-  slope-size =
-      let p : 0 < h = omega (arith, m .positive, m .even) in
-      let scaled : natAbs slope * h ≤ 4398046511106 * h =
-      omega (
-        zarith,
-        s,
-        m .even,
-        size-mul slope (pos h),
-        size-mul x (pos 4398046511104),
-        residue-size q x rx,
-        sub-is (slope *ℤ pos h) (x *ℤ pos 4398046511104),
-        size-is (gap q x slope),
-        size-is (slope *ℤ pos h),
-        size-is (x *ℤ pos 4398046511104),
-        apart (slope *ℤ pos h),
-      ) in
-      le-of-mul-le-mul-right scaled p
-
   module _ (y : ℤ) (ry : isResidue q y ≡ true) where
     abbrev point : ℤ
     point = slope *ℤ y +ℤ (pos 2199023255552 +ℤ pos q)
-
-    -- a product is at most 2^61 and a little more in size, and so is a point
-    pub product-size : natAbs (slope *ℤ y) ≤ 4398046511106 * 524288
-    product-size = rw size-mul (mul-le-mul {m₂ = 524288} slope-size (omega (arith, residue-size q y ry, m .high)))
-
-    pub point-size : natAbs point ≤ 4398046511106 * 524288 + 2199024304128
-    point-size = omega (arith, product-size, size-add (slope *ℤ y) (pos 2199023255552 +ℤ pos q), m .high)
-
-    -- 2·x·y is at most q·(q/2) in size
-    doubled-size : natAbs (pos 2 *ℤ x *ℤ y) ≤ q * h
-    doubled-size = rw size-mul (mul-le-mul (omega (arith, m .even, residue-size q x rx, size-mul (pos 2) x)) (residue-size q y ry))
 
     -- what a point has too much
     abbrev excess : ℤ
@@ -117,9 +87,16 @@ module _ (q : ℕ) (x slope : ℤ) (m : Modulus q) (rx : isResidue q x ≡ true)
         round-even (pos 2 *ℤ x *ℤ y) q h k (m .positive) (m .even)
         (floor-scaled q 4398046511104 excess (pos 2 *ℤ x *ℤ y +ℤ pos h) point k (m .positive) (excess-between .0) (excess-between .1) times f)
 
-    -- and is at most q/2 in size
-    pub point-small : (k : ℤ) → Floor point 4398046511104 k → natAbs k ≤ h
-    point-small k f = rw (sym (line-rounds k f)) (round-size _ _ _ (m .positive) doubled-size)
+-- where z is at most 2^42·h in size and b below 2^42, the whole part of z + b after 42 binary places or more is at most h in size
+pub whole-small : (h b K : ℕ) (z k : ℤ) → natAbs z ≤ 4398046511104 * h → b < 4398046511104 → 4398046511104 ≤ K → Floor (z +ℤ pos b) K k → natAbs k ≤ h
+whole-small h b K z (pos a) s l g f =
+    let wide : 4398046511104 * h ≤ K * h = mul-le-mul-right h g in
+    let t : a * K < (h + 1) * K = omega (zarith, f .low, add-is z (pos b), size-is z) in
+    omega (arith, lt-of-mul-lt-mul-right K t)
+whole-small h b K z (negsuc a) s l g f =
+    let wide : 4398046511104 * h ≤ K * h = mul-le-mul-right h g in
+    let t : a * K < h * K = omega (zarith, f .high, add-is z (pos b), size-is z, mul-is (negsuc a) (pos K), add-is (negsuc a *ℤ pos K) (pos K)) in
+    omega (arith, lt-of-mul-lt-mul-right K t)
 
 -- ---- the slope
 

@@ -1,26 +1,30 @@
 -- `modular::tensor::fill_row` writes the tensor's row for x: entry v of the slice is [round(2·x·d_v/q)]q.
 -- Invariant: the first v entries of out are the row's, the others as found (`Filled`), so that its length stays. A turn stores the residue of the
--- whole part of the line's point over d_v, which is entry v of the row (`line-rounds`). The measure is what is left of d. Assumes nothing.
+-- whole part of the line's point over d_v, which is entry v of the row (`line-rounds`). That each step is safe holds of any base up to 2^41 beside q,
+-- and of 42 binary places or more (`whole-small`). The measure is what is left of d. Assumes nothing.
 use mathlib.Core.Path.{_≡_, sym, ap, _∙_}
 use mathlib.Core.Bool.{true}
 use mathlib.Core.List.{map}
-use Prim.Native.Nat.{ℕ, _/_, _-_, _≤_}
+use Prim.Native.Nat.{ℕ, _+_, _*_, _/_, _-_, _≤_}
 use native.Mathlib.Omega.{arith}
+use native.Mathlib.Nat.{mul-le-mul}
 use lib.IntN.{ℤ, pos, _+ℤ_, _*ℤ_, natAbs}
 use lib.Signed.{shrZ}
+use lib.Dec.{lit≤}
 use lib.ListN.{length, getD, length-map}
 use mir.Syntax.{w64}
 use mir.Val.{SFits, toZ, ofZ}
 use mir.Facts.{toZ-ofZ, toZ-pos}
 use borrow.Author.Needs.{needs, sfits-of}
+use Rattle.whole.specs.Size.{size-add, size-mul}
 use Rattle.whole.specs.Floor.{Floor, floor-is}
 use Rattle.whole.specs.Centred.{centred}
 use Rattle.whole.specs.Machine.{fits64, word}
 use Rattle.whole.specs.Lists.{all-getD, getD-map, Filled, fill-start, fill-step, fill-end}
 use Rattle.scheme.specs.Arithmetic.{isResidue, tensorEntry}
-use Rattle.modular.specs.Loans.{Modulus}
+use Rattle.scheme.specs.Wording.{residue-size}
 use Rattle.modular.specs.Lines.{reciprocalOf}
-use Rattle.modular.proofs.Lines.{gap, product-size, point-size, point-small, line-rounds, scaled-size, shifted-size, shifted-slope}
+use Rattle.modular.proofs.Lines.{gap, line-rounds, whole-small, scaled-size, shifted-size, shifted-slope}
 use Rattle.modular.proofs.tensor.fill_row.Statement.{statement}
 use Rattle.modular.proofs.tensor.fill_row.Tie as tie
 
@@ -47,52 +51,26 @@ module _ (c : tie.Start Inv-loop μ-loop) where
   product-fits : SFits w64 product
   product-fits = fits64 _ (omega (arith, scaled-size (c .args .q) (c .args .x) (c .pre .0) (c .pre .1)))
 
-  slope-fits : SFits w64 slope
-  slope-fits = fits64 _ (omega (arith, shifted-size (c .args .q) (c .args .x) (c .pre .0) (c .pre .1) slope floor))
+  slope-small : natAbs slope ≤ 4398046511104
+  slope-small = shifted-size (c .args .q) (c .args .x) (c .pre .0) (c .pre .1) slope floor
 
-  slope-back : word w64 (shrZ (word w64 (word w64 (c .args .x) *ℤ word w64 (c .args .reciprocal))) 1048576) ≡ slope
-  slope-back = rw (toZ-ofZ (c .fits .x), reciprocal-back, toZ-ofZ product-fits) (toZ-ofZ slope-fits)
+  abbrev machine-slope : ℤ
+  machine-slope = word w64 (shrZ (word w64 (word w64 (c .args .x) *ℤ word w64 (c .args .reciprocal))) 1048576)
+
+  slope-back : machine-slope ≡ slope
+  slope-back = rw (toZ-ofZ (c .fits .x), reciprocal-back, toZ-ofZ product-fits) (toZ-ofZ (fits64 slope (omega (arith, slope-small))))
 
   q-back : toZ w64 (c .args .q) ≡ pos (c .args .q)
   q-back = toZ-pos w64 (omega (arith, c .pre .0 .high))
-
-  base-fits : SFits w64 (pos 2199023255552 +ℤ pos (c .args .q))
-  base-fits = fits64 _ (omega (arith, c .pre .0 .high))
-
-  base-back : word w64 (pos 2199023255552 +ℤ toZ w64 (c .args .q)) ≡ pos 2199023255552 +ℤ pos (c .args .q)
-  base-back = rw q-back (toZ-ofZ base-fits)
 
 mul-slope : tie.Need-mul-slope Inv-loop μ-loop
 mul-slope c = simp (toZ-ofZ, c .fits .x, reciprocal-back c) (product-fits c)
 
 add-base : tie.Need-add-base Inv-loop μ-loop
-add-base c = rw (q-back c) (base-fits c)
+add-base c = rw (q-back c) (fits64 _ (omega (arith, c .pre .0 .high)))
 
 loop-holds : tie.Need-loop-holds Inv-loop μ-loop
 loop-holds c = fill-start _ _ (rw (length-map, c .pre .4))
-
--- the line's point over y and its whole part: they fit, and the row's entry is the residue of the whole part
-record Point (q : ℕ) (x y slope : ℤ) : Type 0 where
-  product-fit : SFits w64 (slope *ℤ y)
-  point-fit : SFits w64 (slope *ℤ y +ℤ (pos 2199023255552 +ℤ pos q))
-  whole-fit : SFits w64 (shrZ (slope *ℤ y +ℤ (pos 2199023255552 +ℤ pos q)) 4398046511104)
-  small : natAbs (shrZ (slope *ℤ y +ℤ (pos 2199023255552 +ℤ pos q)) 4398046511104) ≤ q / 2
-  entry : centred q (shrZ (slope *ℤ y +ℤ (pos 2199023255552 +ℤ pos q)) 4398046511104) ≡ tensorEntry q x y
-
-point-over : (q : ℕ) (x y slope : ℤ) → Modulus q → isResidue q x ≡ true → natAbs (gap q x slope) ≤ q → isResidue q y ≡ true → Point q x y slope
-unfolding tensorEntry
-point-over q x y slope m rx g ry =
-    let point : ℤ = slope *ℤ y +ℤ (pos 2199023255552 +ℤ pos q) in
-    let whole : ℤ = shrZ point 4398046511104 in
-    let f : Floor point 4398046511104 whole = floor-is point 4398046511104 (omega arith) in
-    let small : natAbs whole ≤ q / 2 = point-small q x slope m rx g y ry whole f in
-    record {
-      product-fit = fits64 _ (omega (arith, product-size q x slope m rx g y ry));
-      point-fit = fits64 _ (omega (arith, point-size q x slope m rx g y ry));
-      whole-fit = fits64 _ (omega (arith, m .high));
-      small = small;
-      entry = ap (centred q) (sym (line-rounds q x slope m rx g y ry whole f));
-    }
 
 -- in a turn
 module _ (c : tie.After-up-to-half-arg Inv-loop μ-loop) where
@@ -105,21 +83,63 @@ module _ (c : tie.After-up-to-half-arg Inv-loop μ-loop) where
   y-back : word w64 y ≡ y
   y-back = toZ-ofZ (sfits-of (c .up-to-half-arg .given))
 
-  turn : Point (start .args .q) (start .args .x) y (slope start)
-  turn =
-      point-over (start .args .q) (start .args .x) y (slope start) (start .pre .0) (start .pre .1)
-      (shifted-slope (start .args .q) (start .args .x) (start .pre .0) (start .pre .1) (slope start) (floor start))
-      (all-getD (isResidue (start .args .q)) (start .args .d .now) (c .before .before .loop .v) (pos 0) (start .pre .3) (c .before .loop-test .taken))
+  y-residue : isResidue (start .args .q) y ≡ true
+  y-residue = all-getD (isResidue (start .args .q)) (start .args .d .now) (c .before .before .loop .v) (pos 0) (start .pre .3) (c .before .loop-test .taken)
+
+  product-small : natAbs (slope start *ℤ y) ≤ 4398046511104 * (start .args .q / 2)
+  product-small = rw size-mul (mul-le-mul (slope-small start) (residue-size (start .args .q) y y-residue))
+
+  product-fit : SFits w64 (slope start *ℤ y)
+  product-fit = fits64 _ (omega (arith, product-small, start .pre .0 .high))
+
+  -- the line's point over y for a base b, and as the machine has it
+  module _ (b : ℕ) (l : b ≤ 2199023255552) where
+    abbrev point : ℤ
+    point = slope start *ℤ y +ℤ (pos b +ℤ pos (start .args .q))
+
+    point-fit : SFits w64 point
+    point-fit = fits64 _ (omega (arith, product-small, size-add (slope start *ℤ y) (pos b +ℤ pos (start .args .q)), start .pre .0 .high))
+
+    abbrev machine-point : ℤ
+    machine-point = word w64 (machine-slope start *ℤ word w64 y) +ℤ word w64 (pos b +ℤ toZ w64 (start .args .q))
+
+    base-back : word w64 (pos b +ℤ toZ w64 (start .args .q)) ≡ pos b +ℤ pos (start .args .q)
+    base-back = rw (q-back start) (toZ-ofZ (fits64 (pos b +ℤ pos (start .args .q)) (omega (arith, start .pre .0 .high))))
+
+    point-back : machine-point ≡ point
+    point-back = rw (slope-back start, y-back, base-back, toZ-ofZ product-fit)
+
+    machine-fit : SFits w64 machine-point
+    machine-fit = rw point-back point-fit
+
+    -- its whole part, after the binary places that K says
+    module _ (K : ℕ) (g : 4398046511104 ≤ K) where
+      small : natAbs (shrZ point K) ≤ start .args .q / 2
+      small = whole-small (start .args .q / 2) (b + start .args .q) K (slope start *ℤ y) (shrZ point K) product-small (omega (arith, start .pre .0 .high)) g (floor-is point K (omega arith))
+
+      whole-back : word w64 (shrZ (word w64 machine-point) K) ≡ shrZ point K
+      whole-back = rw (point-back, toZ-ofZ point-fit) (toZ-ofZ (fits64 (shrZ point K) (omega (arith, small, start .pre .0 .high))))
+
+      machine-small : natAbs (word w64 (shrZ (word w64 machine-point) K)) ≤ start .args .q / 2
+      machine-small = rw whole-back small
+
+  -- with the half of rounding in the base, and 42 places, it has the residue that is the row's entry
+  entry : centred (start .args .q) (shrZ (slope start *ℤ y +ℤ (pos 2199023255552 +ℤ pos (start .args .q))) 4398046511104) ≡ tensorEntry (start .args .q) (start .args .x) y
+  unfolding tensorEntry
+  entry =
+      let q = start .args .q in
+      let x = start .args .x in
+      let g : natAbs (gap q x (slope start)) ≤ q = shifted-slope q x (start .pre .0) (start .pre .1) (slope start) (floor start) in
+      ap (centred q) (sym (line-rounds q x (slope start) (start .pre .0) (start .pre .1) g y y-residue _ (floor-is _ 4398046511104 (omega arith))))
 
 mul-up-to-half-2 : tie.Need-mul-up-to-half-2 Inv-loop μ-loop
-mul-up-to-half-2 c = rw (slope-back (start c), y-back c) (turn c .product-fit)
+mul-up-to-half-2 c = rw (slope-back (start c), y-back c) (product-fit c)
 
 add-up-to-half : tie.Need-add-up-to-half Inv-loop μ-loop
-add-up-to-half c = rw (slope-back (start c), y-back c, base-back (start c), toZ-ofZ (turn c .product-fit)) (turn c .point-fit)
+add-up-to-half c = search (machine-fit c, lit≤)
 
 up-to-half-requires : tie.Need-up-to-half-requires Inv-loop μ-loop
-up-to-half-requires c κs =
-    (start c .pre .0, rw (slope-back (start c), y-back c, base-back (start c), toZ-ofZ (turn c .product-fit), toZ-ofZ (turn c .point-fit), toZ-ofZ (turn c .whole-fit)) (turn c .small))
+up-to-half-requires c κs = (start c .pre .0, search (machine-small c, lit≤))
 
 loop-again : tie.Need-loop-again Inv-loop μ-loop
 loop-again c =
@@ -130,8 +150,9 @@ loop-again c =
     fill-step (l .loop .inv) _ (pos 0) (omega arith)
     (toZ-ofZ (sfits-of (c .value .ok))
     ∙ c .value .ensures
-    ∙ (rw (slope-back s, y-back a, base-back s, toZ-ofZ (turn a .product-fit), toZ-ofZ (turn a .point-fit), toZ-ofZ (turn a .whole-fit)) at (c .before .up-to-half .ensures))
-    ∙ turn a .entry
+    ∙ c .before .up-to-half .ensures
+    ∙ ap (centred (s .args .q)) (whole-back a 2199023255552 (omega arith) 4398046511104 (omega arith))
+    ∙ entry a
     ∙ rw (getD-map f (s .args .d .now) (l .loop .v) (pos 0) (pos 0) (a .before .loop-test .taken), toZ-ofZ (s .fits .x)))
 
 same-length : tie.Need-same-length Inv-loop μ-loop
