@@ -16,7 +16,7 @@ use borrow.Author.Needs.{needs, sfits-of}
 use borrow.Rule.Slice.PartMut.{mid-len}
 use Rattle.whole.specs.Machine.{fits64}
 use Rattle.whole.specs.Lists.{all-getD, length-grid, grid-row, row-ends, Filled, fill-start, fill-part, fill-end}
-use Rattle.scheme.specs.Arithmetic.{isResidue, tensorEntry, tensor}
+use Rattle.scheme.specs.Arithmetic.{tensorEntry, tensor}
 use Rattle.modular.specs.Lines.{reciprocalOf}
 use Rattle.modular.proofs.tensor.fill_tensor.Statement.{statement}
 use Rattle.modular.proofs.tensor.fill_tensor.Tie as tie

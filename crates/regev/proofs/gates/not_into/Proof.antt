@@ -6,7 +6,6 @@ use Prim.Native.Nat.{ℕ, _/_, _≤_, _<_}
 use native.Mathlib.Omega.{arith}
 use native.Mathlib.Nat.{mul-le-mul-left, le-div-iff-mul-le, div-mul-le-self}
 use lib.IntN.{ℤ, pos, _+ℤ_, natAbs}
-use lib.Signed.{quotZ}
 use lib.Dec.{lit≤}
 use lib.ListN.{length, getD, set}
 use mir.Syntax.{w64}
