@@ -1,9 +1,9 @@
 -- `regev::gates::and_into` writes the AND of c and d: their tensor into the scratch, and its switch into out.
 -- Leans on what the two callees ensure; the tensor is as long as the scratch, and its entries are residues (scheme's `Wording`).
-use mathlib.Core.Path.{_≡_, sym, ap, _∙_}
+use mathlib.Core.Path.{_≡_, sym, _∙_}
 use native.Mathlib.Omega.{arith}
 use lib.ListN.{length}
-use Rattle.scheme.specs.Arithmetic.{AND, switch}
+use Rattle.scheme.specs.Arithmetic.{AND}
 use Rattle.scheme.specs.Wording.{length-tensor, tensor-residues}
 use borrow.Author.Needs.{needs}
 use Rattle.regev.proofs.gates.and_into.Statement.{statement}
@@ -36,10 +36,7 @@ unfolding AND
 returns c =
     let w = c .before in
     let t = w .before .before .before .before in
-    let s = t .before .before in (
-      w .fill-switch .ensures ∙ ap (switch (length (s .args .out .now)) (s .args .q) (s .args .key .now)) (t .fill-tensor .ensures),
-      t .fill-tensor .ensures,
-    )
+    (rw (w .fill-switch .ensures, t .fill-tensor .ensures), rw (t .fill-tensor .ensures))
 
 pub and-into-spec : {M : Type 1} → statement M
 and-into-spec =
