@@ -27,7 +27,7 @@ import sys
 import audit_edits
 
 ROOT = pathlib.Path(__file__).resolve().parent.parent
-ENGINE = ("refusal", "modular", "keys", "regev", "circuit", "evaluation", "records", "gatfile", "text")
+ENGINE = ("refusal", "modular", "keys", "tensor", "switch", "regev", "gates", "planning", "evaluation", "records", "gatfile", "text")
 THEOREMS = ("whole", "refusal", "scheme", "noise", "circuit", "vouched", "circuitfile")
 RESULTS = "audit.tsv"
 REFUSED, ACCEPTED, BAD = "refused", "accepted", "does not compile"
@@ -81,7 +81,7 @@ class Definitions:
 
     @staticmethod
     def copied(folder):
-        """A copy of those crates in which no function and no proof of one is left."""
+        """A copy of those crates."""
         for crate in THEOREMS:
             shutil.copytree(ROOT / "crates" / crate, folder / "crates" / crate, ignore=shutil.ignore_patterns("must-fail"))
         shutil.copytree(ROOT / "docs", folder / "docs")
@@ -91,10 +91,6 @@ class Definitions:
         (folder / "crates.txt").write_text("\n".join(lines) + "\n")
         for path in folder.glob("crates/*/specs/*.antt"):
             path.write_text(audit_edits.with_partners(path.read_text(encoding="utf-8")), encoding="utf-8")
-        shutil.rmtree(folder / "crates/circuit/proofs")
-        for path in (folder / "crates/circuit/src").glob("*.rt"):
-            kept = re.sub(r"^(pub )?mod \w+;\n", "", path.read_text(encoding="utf-8"), flags=re.M)
-            path.write_text(kept, encoding="utf-8") if path.name == "lib.rt" else path.unlink()
 
     @staticmethod
     def edits(folder, crate):

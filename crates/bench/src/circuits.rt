@@ -2,8 +2,8 @@ ghost use mathlib.Core.Path.{_≡_};
 ghost use lib.ListN.{length};
 ghost use Rattle.refusal.specs.Parameters.{params};
 ghost use Rattle.circuit.specs.Core.{planCoreAnswer, planCoreBounds, evaluateCoreAnswer, evaluateCoreWires, evaluateCoreBounds, evaluateCoreScratch};
-use circuit::plan::plan;
 use evaluation::evaluate;
+use planning::plan;
 use refusal::Params;
 
 // Planning on a set of any five numbers: answers the number.

@@ -6,9 +6,9 @@ use crate::print;
 use modular::range::all_big_residues;
 use modular::range::all_residues;
 use modular::range::all_within;
-use modular::switch::fill_switch;
-use modular::switch::switch_entry;
-use modular::tensor::fill_tensor;
+use switch::fill_switch;
+use switch::switch_entry;
+use tensor::fill_tensor;
 
 // The most entries of a list that is made.
 const MADE: usize = 4096;

@@ -7,7 +7,7 @@ use modular::big_residue::BigResidue;
 use modular::range::all_residues;
 use modular::residue::Residue;
 use modular::round::round_quotient;
-use modular::tensor::fill_tensor;
+use tensor::fill_tensor;
 
 // 1: [x]q
 pub fn residue(q: u32, x: i64, text: &mut [u8], at: usize) -> usize

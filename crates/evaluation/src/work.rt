@@ -11,11 +11,11 @@ ghost use Rattle.modular.specs.Loans.{Modulus};
 ghost use Rattle.circuit.specs.Circuits.{byKind, wrongGate, gateWire, wiresOf};
 ghost use Rattle.circuit.specs.Core.{gate, records};
 ghost use Rattle.evaluation.specs.Ready.{EvaluateReady};
+use gates::and_into;
+use gates::not_into;
+use gates::xor_into;
 use modular::buffer::copy;
 use refusal::Params;
-use regev::gates::and_into;
-use regev::gates::not_into;
-use regev::gates::xor_into;
 
 // What a gate makes of its operands c and d, into the stretch of its own wire; NOT takes c alone.
 fn make_wire(

@@ -6,7 +6,7 @@ ghost use Rattle.refusal.specs.First.{firstOf};
 ghost use Rattle.circuitfile.specs.File.{fileParams, fileInputs, fileGateCount, isKnown, headRows};
 use crate::field::four;
 use crate::field::two;
-use circuit::checks::are_bad_counts;
+use planning::checks::are_bad_counts;
 use refusal::Params;
 use refusal::row;
 

@@ -69,7 +69,7 @@ fn plan_listed(
     let count = inputs(file);
     let from = count as usize;
     fill(p.e, &mut table[0..from]);
-    circuit::plan::plan(p, count, kinds, lefts, rights, table)
+    planning::plan(p, count, kinds, lefts, rights, table)
 }
 
 // The same, with room for the gates.

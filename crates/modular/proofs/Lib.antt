@@ -1,5 +1,3 @@
 pub mod Beyond
-pub mod Lines
 pub mod Sums
-pub mod Switching
 pub mod Tops

@@ -1,6 +1,4 @@
--- What the arithmetic's code asks of what it is lent (Loans), what a tensor divides once (Lines), and that the calls' own tests
--- give what is asked (Residues), in that order. What the code gives back is
--- *Arithmetic* of document 01 as the crate scheme defines it: "the answer is that of the exact S". No definition of it stands here.
+-- What the arithmetic's code asks of what it is lent (Loans), and that the calls' own tests give what is asked (Residues), in that order. What the code
+-- gives back is *Arithmetic* of document 01 as the crate scheme defines it. No definition of it stands here.
 pub mod Loans
-pub mod Lines
 pub mod Residues

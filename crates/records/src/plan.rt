@@ -6,7 +6,7 @@ use crate::first::first_gates;
 use crate::first::listed_count;
 use crate::lists::list;
 use circuit::Gate;
-use circuit::plan::plan;
+use planning::plan;
 use refusal::Params;
 use refusal::Refusal;
 

@@ -1,3 +1,1 @@
-pub mod Added
-pub mod ReadyCipher
-pub mod ReadyGates
+pub mod Ready

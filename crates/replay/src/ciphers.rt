@@ -4,7 +4,6 @@ use crate::lent;
 use crate::print;
 use crate::read::SHORT;
 use refusal::Params;
-use regev::cipher;
 
 // Encrypts into `out`, and puts the answer and `out`.
 fn put_encrypted(
@@ -19,7 +18,7 @@ fn put_encrypted(
 ) -> usize
     ensures { λ r. ⌜ Placed r (now (text .entry)) (now (text .exit)) ⌝ }
 {
-    let to = print::bounded(text, at, cipher::encrypt(p, s, bit, mask, error, out));
+    let to = print::bounded(text, at, regev::encrypt(p, s, bit, mask, error, out));
     print::entries(text, to, out)
 }
 
@@ -50,5 +49,5 @@ pub fn decrypt(call: &[i64], text: &mut [u8], at: usize) -> usize
     let p = lent::params(call);
     let c = lent::list(call, lent::past(call, 6));
     let n = lent::key(call, 6, &mut s);
-    print::decrypted(text, at, cipher::decrypt(p, &s[0..n], c))
+    print::decrypted(text, at, regev::decrypt(p, &s[0..n], c))
 }

@@ -33,7 +33,7 @@ fn plan_listed(call: &[i64], bounds: &mut [u32]) -> Refusal {
     let k = lent::words(call, 7, &mut kinds);
     let l = lent::words(call, at_lefts, &mut lefts);
     let r = lent::words(call, lent::past(call, at_lefts), &mut rights);
-    circuit::plan::plan(
+    planning::plan(
         lent::params(call),
         lent::word(call, 6),
         &kinds[0..k],

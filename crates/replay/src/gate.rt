@@ -5,7 +5,6 @@ use crate::print;
 use crate::read::MIDDLE;
 use crate::read::SHORT;
 use refusal::Params;
-use regev::gates;
 
 // XOR into `out`; puts the answer and `out`.
 fn put_xor(

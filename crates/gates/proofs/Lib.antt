@@ -1,0 +1,2 @@
+pub mod Added
+pub mod Ready

@@ -1,0 +1,215 @@
+// XOR, NOT and AND: document 01's *XOR*, *NOT* and *AND*. What each call answers and writes is defined in the crate scheme: this one has no specs of its
+// own. Every call takes arbitrary numbers and buffers and refuses bad ones by number; the functions that it works by, which a circuit calls too, stand beside it.
+ghost use mathlib.Core.Path.{_≡_};
+ghost use mathlib.Core.Bool.{true};
+ghost use Prim.Native.Nat.{_*_, _≤_, _<_};
+ghost use lib.ListN.{length};
+ghost use Rattle.whole.specs.Lists.{all};
+ghost use Rattle.refusal.specs.First.{firstOf};
+ghost use Rattle.refusal.specs.Parameters.{InRange};
+ghost use Rattle.scheme.specs.Arithmetic.{isResidue, XOR, NOT, tensor, AND, AND-bound};
+ghost use Rattle.scheme.specs.Calls.{xorRows, xorAnswer, xorResult, notRows, notAnswer, notResult, andRows, andAnswer, andResult, andScratch};
+ghost use Rattle.modular.specs.Loans.{Modulus};
+use keys::tests::is_outside;
+use keys::tests::is_outside_big;
+use keys::tests::is_over;
+use keys::tests::length_differs;
+use modular::buffer::copy;
+use modular::buffer::zero;
+use modular::residue::Residue;
+use refusal::Params;
+use scheme::Bounded;
+use switch::fill_switch;
+use tensor::fill_tensor;
+
+// XOR: entry by entry [c+d]q.
+pub fn xor_into(q: u32, c: &[i64], d: &[i64], out: &mut [i64])
+    requires { ⌜ Modulus q × (length (now c) ≡ length (now out)) × (length (now d) ≡ length (now out)) × (all (isResidue q) (now c) ≡ true) × (all (isResidue q) (now d) ≡ true) ⌝ }
+    ensures { λ r. ⌜ now (out .exit) ≡ XOR q (now (c .entry)) (now (d .entry)) ⌝ }
+{
+    let mut i = 0;
+    while i < out.len() {
+        out[i] = Residue::near(c[i] + d[i], q).value();
+        i += 1;
+    }
+}
+
+// NOT: q/2 added to entry 0 and reduced.
+pub fn not_into(q: u32, c: &[i64], out: &mut [i64])
+    requires { ⌜ Modulus q × (length (now c) ≡ length (now out)) × (0 < length (now out)) × (all (isResidue q) (now c) ≡ true) ⌝ }
+    ensures { λ r. ⌜ now (out .exit) ≡ NOT q (now (c .entry)) ⌝ }
+{
+    copy(c, out);
+    let half = (q as i64) / 2;
+    out[0] = Residue::near(c[0] + half, q).value();
+}
+
+// AND: tensor, then switch. The scratch is left with the tensor.
+pub fn and_into(q: u32, c: &[i64], d: &[i64], key: &[i64], scratch: &mut [i64], out: &mut [i64])
+    requires { ⌜ Modulus q × (length (now out) ≤ 1024) × (length (now c) ≡ length (now out)) × (length (now d) ≡ length (now out)) × (length (now scratch) ≡ length (now out) * length (now out)) × (length (now key) ≡ length (now out) * (length (now out) * length (now out))) × (all (isResidue q) (now c) ≡ true) × (all (isResidue q) (now d) ≡ true) × (all (isResidue (q * q)) (now key) ≡ true) ⌝ }
+    ensures { λ r. ⌜ now (out .exit) ≡ AND (length (now (out .entry))) q (now (key .entry)) (now (c .entry)) (now (d .entry)) ⌝ }
+    ensures { λ r. ⌜ now (scratch .exit) ≡ tensor q (now (c .entry)) (now (d .entry)) ⌝ }
+{
+    fill_tensor(q, c, d, scratch);
+    fill_switch(q, scratch, key, out);
+}
+
+// The bound of AND, with its two divisions rounded down by themselves. It can pass 32 bits before it is refused.
+pub fn and_bound(p: Params, b1: u32, b2: u32) -> u64
+    requires { ⌜ InRange p × (4 * b1 < p .q) × (4 * b2 < p .q) ⌝ }
+    ensures { λ r. ⌜ (r ≡ AND-bound (p .n) (p .q) (p .l) (p .f) b1 b2) × (r ≤ 1099511627776) ⌝ }
+{
+    let n = p.n as u64;
+    let q = p.q as u64;
+    let l = p.l as u64;
+    let f = p.f as u64;
+    let x = b1 as u64;
+    let y = b2 as u64;
+    let product = (2 * q * l * (x + y) + 4 * x * y + q * (l * l)) / (2 * q);
+    product + (n * n * f + l) / 2
+}
+
+// The number for an XOR into a buffer of `result` entries: 1, 3, 6, 8, 10 or 0.
+fn xor_number(p: Params, c: &[i64], b1: u32, d: &[i64], b2: u32, result: usize) -> u32
+    ensures { λ r. ⌜ r ≡ firstOf (xorRows p (now (c .entry)) b1 (now (d .entry)) b2 result) ⌝ }
+{
+    if !p.in_range() {
+        return 1;
+    }
+    let n = p.n as usize;
+    if length_differs(c.len(), n) | length_differs(d.len(), n) | length_differs(result, n) {
+        return 3;
+    }
+    let x = b1 as u64;
+    let y = b2 as u64;
+    let ten = refusal::row(10, is_over(p.q, x + y), 0);
+    let eight = refusal::row(8, is_over(p.q, x) | is_over(p.q, y), ten);
+    refusal::row(6, is_outside(p.q, c) | is_outside(p.q, d), eight)
+}
+
+// XOR of two ciphertexts into `out`; answers the bound. Refusals 1, 3, 6, 8, 10.
+pub fn xor(p: Params, c: &[i64], b1: u32, d: &[i64], b2: u32, out: &mut [i64]) -> Bounded
+    ensures { λ r. ⌜ r ≡ xorAnswer p (now (c .entry)) b1 (now (d .entry)) b2 (length (now (out .entry))) ⌝ }
+    ensures { λ r. ⌜ now (out .exit) ≡ xorResult p (now (c .entry)) b1 (now (d .entry)) b2 (now (out .entry)) ⌝ }
+{
+    let number = xor_number(p, c, b1, d, b2, out.len());
+    if number != 0 {
+        return Bounded {
+            number,
+            place: 0,
+            bound: 0,
+        };
+    }
+    xor_into(p.q, c, d, out);
+    Bounded {
+        number: 0,
+        place: 0,
+        bound: b1 + b2,
+    }
+}
+
+// The number for a NOT into a buffer of `result` entries: 1, 3, 6, 8 or 0.
+fn not_number(p: Params, c: &[i64], bound: u32, result: usize) -> u32
+    ensures { λ r. ⌜ r ≡ firstOf (notRows p (now (c .entry)) bound result) ⌝ }
+{
+    if !p.in_range() {
+        return 1;
+    }
+    let n = p.n as usize;
+    if length_differs(c.len(), n) | length_differs(result, n) {
+        return 3;
+    }
+    let eight = refusal::row(8, is_over(p.q, bound as u64), 0);
+    refusal::row(6, is_outside(p.q, c), eight)
+}
+
+// NOT of a ciphertext into `out`; answers the bound. Refusals 1, 3, 6, 8.
+pub fn not(p: Params, c: &[i64], bound: u32, out: &mut [i64]) -> Bounded
+    ensures { λ r. ⌜ r ≡ notAnswer p (now (c .entry)) bound (length (now (out .entry))) ⌝ }
+    ensures { λ r. ⌜ now (out .exit) ≡ notResult p (now (c .entry)) bound (now (out .entry)) ⌝ }
+{
+    let number = not_number(p, c, bound, out.len());
+    if number != 0 {
+        return Bounded {
+            number,
+            place: 0,
+            bound: 0,
+        };
+    }
+    not_into(p.q, c, out);
+    Bounded {
+        number: 0,
+        place: 0,
+        bound,
+    }
+}
+
+// The number for an AND into a buffer of `result` entries, by `scratch` entries of scratch: 1, 3, 6, 8, 10 or 0.
+fn and_number(
+    p: Params,
+    c: &[i64],
+    b1: u32,
+    d: &[i64],
+    b2: u32,
+    key: &[i64],
+    scratch: usize,
+    result: usize,
+) -> u32
+    ensures { λ r. ⌜ r ≡ firstOf (andRows p (now (c .entry)) b1 (now (d .entry)) b2 (now (key .entry)) scratch result) ⌝ }
+{
+    if !p.in_range() {
+        return 1;
+    }
+    let n = p.n as usize;
+    let square = n * n;
+    if length_differs(c.len(), n)
+        | length_differs(d.len(), n)
+        | length_differs(key.len(), n * square)
+        | length_differs(scratch, square)
+        | length_differs(result, n)
+    {
+        return 3;
+    }
+    let outside = is_outside(p.q, c) | is_outside(p.q, d) | is_outside_big(p.q, key);
+    let earlier = refusal::row(
+        6,
+        outside,
+        refusal::row(8, is_over(p.q, b1 as u64) | is_over(p.q, b2 as u64), 0),
+    );
+    if earlier != 0 {
+        return earlier;
+    }
+    refusal::row(10, is_over(p.q, and_bound(p, b1, b2)), 0)
+}
+
+// AND of two ciphertexts into `out`, by a switching key and n² of scratch, which is zeroed; answers the bound. Refusals 1, 3, 6, 8, 10.
+pub fn and(
+    p: Params,
+    c: &[i64],
+    b1: u32,
+    d: &[i64],
+    b2: u32,
+    key: &[i64],
+    scratch: &mut [i64],
+    out: &mut [i64],
+) -> Bounded
+    ensures { λ r. ⌜ r ≡ andAnswer p (now (c .entry)) b1 (now (d .entry)) b2 (now (key .entry)) (length (now (scratch .entry))) (length (now (out .entry))) ⌝ }
+    ensures { λ r. ⌜ now (out .exit) ≡ andResult p (now (c .entry)) b1 (now (d .entry)) b2 (now (key .entry)) (now (scratch .entry)) (now (out .entry)) ⌝ }
+    ensures { λ r. ⌜ now (scratch .exit) ≡ andScratch p (now (c .entry)) b1 (now (d .entry)) b2 (now (key .entry)) (now (scratch .entry)) (now (out .entry)) ⌝ }
+{
+    let number = and_number(p, c, b1, d, b2, key, scratch.len(), out.len());
+    if number != 0 {
+        return Bounded {
+            number,
+            place: 0,
+            bound: 0,
+        };
+    }
+    and_into(p.q, c, d, key, scratch, out);
+    zero(scratch);
+    Bounded {
+        number: 0,
+        place: 0,
+        bound: and_bound(p, b1, b2) as u32,
+    }
+}

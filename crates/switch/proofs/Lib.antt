@@ -1,0 +1,2 @@
+pub mod Chunks
+pub mod Switching
