@@ -15,7 +15,7 @@ use Rattle.refusal.specs.Parameters.{refused}
 use Rattle.scheme.specs.Calls.{differs}
 use Rattle.scheme.specs.Passed.{params-in-range, length-is, entries-inside}
 use Rattle.circuit.specs.Circuits.{gateRows}
-use Rattle.evaluation.specs.Ready.{EvaluateReady}
+use Rattle.working.specs.Ready.{EvaluateReady}
 use Rattle.circuit.specs.Answers.{place-early}
 use Rattle.circuit.specs.Core.{records, uneven, planCoreRows, planCoreAnswer, planCoreBounds, evaluateCoreRows, evaluateCoreAnswer, evaluateCoreBounds}
 

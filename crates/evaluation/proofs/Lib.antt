@@ -1,3 +1,1 @@
 pub mod Evaluated
-pub mod Stretch
-pub mod Worked

@@ -1,6 +1,5 @@
 // Evaluating a circuit of XOR, AND and NOT gates on encrypted wires, over three slices.
 mod number;
-mod work;
 
 ghost use mathlib.Core.Path.{_≡_};
 ghost use lib.ListN.{length};
@@ -10,7 +9,7 @@ use number::evaluate_number;
 use planning::plan;
 use refusal::Params;
 use refusal::Refusal;
-use work::work;
+use working::work;
 
 // Evaluation: the wires of the gates behind those of the inputs, and their bounds; the scratch is zeroed. Refusals 1, 2, 3, 6, 8, 9, 10;
 // the place is the first offending gate for 9 and 10. The budget is settled by planning before any wire is written.

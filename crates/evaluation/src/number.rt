@@ -2,10 +2,10 @@ ghost use mathlib.Core.Path.{_≡_};
 ghost use lib.ListN.{take};
 ghost use Rattle.refusal.specs.First.{firstOf};
 ghost use Rattle.circuit.specs.Core.{evaluateCoreRows};
+use checks::are_bad_counts;
 use keys::tests::is_outside;
 use keys::tests::is_outside_big;
 use keys::tests::length_differs;
-use planning::checks::are_bad_counts;
 use refusal::Params;
 
 // The number for evaluation up to 6: 1, 2, 3, 6 or 0. What is left, 8, 9 and 10, is planning's.

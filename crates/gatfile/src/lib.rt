@@ -1,5 +1,3 @@
-// The circuit file in code: its fields, its check, and planning on its bytes.
-pub mod field;
-pub mod head;
+// The circuit file in code: its check, and planning on its bytes.
 pub mod plan;
 pub mod settle;

@@ -6,11 +6,11 @@ ghost use lib.ListN.{length};
 ghost use Rattle.circuitfile.specs.File.{fourBytes, checkAnswer, planFileAnswer, planFileBuffer};
 ghost use Rattle.circuitfile.specs.Order.{planRefusal};
 ghost use Rattle.gatfile.specs.Writing.{Written};
-use crate::head::head_number;
-use crate::head::wire_count;
 use crate::settle::WIRES;
 use crate::settle::checked;
 use crate::settle::settle;
+use filehead::head_number;
+use filehead::wire_count;
 use refusal::Refusal;
 
 // 65,536 times the number plus the place.

@@ -6,14 +6,14 @@ ghost use Rattle.refusal.specs.First.{firstOf};
 ghost use Rattle.circuitfile.specs.File.{fileInputs, fileGateCount, fileBounds, headRows};
 ghost use Rattle.circuitfile.specs.Order.{gateAnswer, checkRefusal};
 ghost use Rattle.gatfile.specs.Settled.{fileKinds, fileLefts, fileRights, settledBounds};
-use crate::field::one;
-use crate::field::two;
-use crate::head::HEAD;
-use crate::head::gate_count;
-use crate::head::head_number;
-use crate::head::inputs;
-use crate::head::params;
-use crate::head::wire_count;
+use filehead::HEAD;
+use filehead::field::one;
+use filehead::field::two;
+use filehead::gate_count;
+use filehead::head_number;
+use filehead::inputs;
+use filehead::params;
+use filehead::wire_count;
 use refusal::Refusal;
 
 // The most gates of a circuit.

@@ -1,6 +1,4 @@
 // Planning a circuit whose gates are lent in three lists: the checks of its gates, and the bounds of its wires.
-pub mod checks;
-
 ghost use mathlib.Core.Path.{_≡_};
 ghost use mathlib.Core.Bool.{true, false};
 ghost use Prim.Native.Nat.{_+_, _*_, _≤_, _<_};

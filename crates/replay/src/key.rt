@@ -5,10 +5,8 @@ ghost use Rattle.stream.specs.Bounds.{Placed};
 use crate::lent;
 use crate::print;
 use crate::read::SHORT;
-use keys::bench;
-use keys::key;
-use keys::switching;
 use refusal::Params;
+use switchingkey::bench;
 
 // Call 3: a parameter set and a key.
 pub fn check_key(call: &[i64], text: &mut [u8], at: usize) -> usize
@@ -17,7 +15,7 @@ pub fn check_key(call: &[i64], text: &mut [u8], at: usize) -> usize
     let mut s = [0i32; SHORT];
     let p = lent::params(call);
     let n = lent::key(call, 6, &mut s);
-    print::refusal(text, at, key::check_key(p, &s[0..n]))
+    print::refusal(text, at, keys::check_key(p, &s[0..n]))
 }
 
 // Makes a switching key in `out`, and puts the answer and `out`.
@@ -32,7 +30,7 @@ fn put_switching_key(
 ) -> usize
     ensures { λ r. ⌜ Placed r (now (text .entry)) (now (text .exit)) ⌝ }
 {
-    let answer = switching::make_switching_key(p, s, masks, errors, out);
+    let answer = switchingkey::make_switching_key(p, s, masks, errors, out);
     let to = print::refusal(text, at, answer);
     print::entries(text, to, out)
 }

@@ -14,8 +14,8 @@ ghost use Rattle.gatfile.specs.Writing.{Written};
 use crate::line::put_pair;
 use crate::line::put_wire;
 use crate::write::put;
-use gatfile::head::params;
-use gatfile::head::wire_count;
+use filehead::params;
+use filehead::wire_count;
 use gatfile::settle::WIRES;
 use gatfile::settle::checked;
 

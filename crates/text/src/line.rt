@@ -10,9 +10,9 @@ ghost use Rattle.circuitfile.specs.Lines.{pairLine};
 ghost use Rattle.gatfile.specs.Writing.{Written};
 use crate::write::put;
 use crate::write::put_field;
-use gatfile::field::one;
-use gatfile::head::HEAD;
-use gatfile::head::inputs;
+use filehead::HEAD;
+use filehead::field::one;
+use filehead::inputs;
 
 // IN for an input, and XOR, AND or NOT for a gate; and a space.
 fn put_kind(file: &[u8], wire: usize, at: usize, out: &mut [u8]) -> usize

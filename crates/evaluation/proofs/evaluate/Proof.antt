@@ -9,7 +9,7 @@ use borrow.Author.Needs.{needs}
 use Rattle.refusal.specs.declared.Refusal.{Refusal}
 use Rattle.refusal.specs.First.{firstOf, doneOr-done, doneOr-refused}
 use Rattle.circuit.specs.Core.{evaluateCoreRows, evaluateCoreAnswer, evaluateCoreWires, evaluateCoreBounds, evaluateCoreScratch}
-use Rattle.evaluation.specs.Ready.{EvaluateReady}
+use Rattle.working.specs.Ready.{EvaluateReady}
 use Rattle.evaluation.proofs.Evaluated.{early-number, early-answer, late-answer, late-bounds, answer-number, evaluate-ready}
 use Rattle.evaluation.proofs.evaluate.Statement.{statement}
 use Rattle.evaluation.proofs.evaluate.Tie as tie

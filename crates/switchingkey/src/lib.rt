@@ -1,0 +1,93 @@
+// Switching keys and the bench key: document 01's calls on them. Every call takes arbitrary numbers and buffers and refuses bad ones by number; the
+// functions that it works by stand beside it.
+pub mod bench;
+
+ghost use mathlib.Core.Path.{_≡_};
+ghost use mathlib.Core.Bool.{true};
+ghost use mathlib.Core.List.{List};
+ghost use Prim.Native.Nat.{_*_, _-_, _/_, _%_, _≤_, _<_};
+ghost use lib.IntN.{pos, _+ℤ_, _-ℤ_, _*ℤ_, natAbs};
+ghost use lib.ListN.{length, getD, drop};
+ghost use Rattle.whole.specs.Centred.{centred};
+ghost use Rattle.whole.specs.Inner.{inner, sizes};
+ghost use Rattle.whole.specs.Lists.{all, tabulate};
+ghost use Rattle.refusal.specs.First.{firstOf};
+ghost use Rattle.scheme.specs.Arithmetic.{isResidue, maskColumn, rowZeroEntry, switchingKey};
+ghost use Rattle.scheme.specs.Calls.{makeKeyRows, makeKeyAnswer, makeKeyResult};
+ghost use Rattle.modular.specs.Loans.{Modulus, UpTo};
+use keys::tests::is_bad_key;
+use keys::tests::is_exceeding;
+use keys::tests::is_outside_big;
+use keys::tests::length_differs;
+use modular::big_residue::BigResidue;
+use modular::buffer::copy;
+use modular::key::inner_column;
+use refusal::Params;
+use refusal::Refusal;
+
+// Row 0, column j of a switching key: [q·su·sv - <s',mask column j> + fj]Q for j = u·n+v.
+fn row_zero_entry(q: u32, s: &[i32], masks: &[i64], error: i64, j: usize) -> BigResidue
+    requires { ⌜ Modulus q × (2 ≤ length (now s)) × (length (now s) ≤ 1024) × (sizes (now s) ≤ 4096) × (length (now masks) ≡ (length (now s) - 1) * (length (now s) * length (now s))) × UpTo 549755813888 (now masks) × (natAbs error ≤ 65535) × (j < length (now s) * length (now s)) ⌝ }
+    ensures { λ r. ⌜ r .0 ≡ centred (q * q) (pos q *ℤ getD (now (s .entry)) (j / length (now (s .entry))) (pos 0) *ℤ getD (now (s .entry)) (j % length (now (s .entry))) (pos 0) -ℤ inner (drop 1 (now (s .entry))) (maskColumn (length (now (s .entry))) (now (masks .entry)) j) +ℤ error) ⌝ }
+{
+    let n = s.len();
+    let product = (q as i64) * (s[j / n] as i64) * (s[j % n] as i64);
+    BigResidue::of(product - inner_column(&s[1..], masks, n * n, j) + error, q)
+}
+
+// Row 0 of a switching key.
+pub fn fill_row_zero(q: u32, s: &[i32], masks: &[i64], errors: &[i64], out: &mut [i64])
+    requires { ⌜ Modulus q × (2 ≤ length (now s)) × (length (now s) ≤ 1024) × (sizes (now s) ≤ 4096) × (length (now masks) ≡ (length (now s) - 1) * (length (now s) * length (now s))) × UpTo 549755813888 (now masks) × UpTo 65535 (now errors) × (length (now errors) ≡ length (now s) * length (now s)) × (length (now out) ≡ length (now s) * length (now s)) ⌝ }
+    ensures { λ r. ⌜ now (out .exit) ≡ tabulate (length (now (s .entry)) * length (now (s .entry))) (rowZeroEntry (length (now (s .entry))) q (now (s .entry)) (now (masks .entry)) (now (errors .entry))) ⌝ }
+{
+    let mut j = 0;
+    while j < out.len() {
+        out[j] = row_zero_entry(q, s, masks, errors[j], j).value();
+        j += 1;
+    }
+}
+
+// The number for a switching key into a buffer of `result` entries: 1, 3, 4, 6, 7 or 0.
+fn make_key_number(p: Params, s: &[i32], masks: &[i64], errors: &[i64], result: usize) -> u32
+    ensures { λ r. ⌜ r ≡ firstOf (makeKeyRows p (now (s .entry)) (now (masks .entry)) (now (errors .entry)) result) ⌝ }
+{
+    if !p.in_range() {
+        return 1;
+    }
+    let n = p.n as usize;
+    let square = n * n;
+    if length_differs(s.len(), n)
+        | length_differs(masks.len(), (n - 1) * square)
+        | length_differs(errors.len(), square)
+        | length_differs(result, n * square)
+    {
+        return 3;
+    }
+    let seven = refusal::row(7, is_exceeding(p.f, errors), 0);
+    let six = refusal::row(6, is_outside_big(p.q, masks), seven);
+    refusal::row(4, is_bad_key(p.l, s), six)
+}
+
+// Makes a switching key: n rows of n² entries, from a key, masks for the rows below row 0, and errors. Refusals 1, 3, 4, 6, 7.
+pub fn make_switching_key(
+    p: Params,
+    s: &[i32],
+    masks: &[i64],
+    errors: &[i64],
+    out: &mut [i64],
+) -> Refusal
+    ensures { λ r. ⌜ r ≡ makeKeyAnswer p (now (s .entry)) (now (masks .entry)) (now (errors .entry)) (length (now (out .entry))) ⌝ }
+    ensures { λ r. ⌜ now (out .exit) ≡ makeKeyResult p (now (s .entry)) (now (masks .entry)) (now (errors .entry)) (now (out .entry)) ⌝ }
+{
+    let number = make_key_number(p, s, masks, errors, out.len());
+    if number != 0 {
+        return Refusal { number, place: 0 };
+    }
+    let square = errors.len();
+    fill_row_zero(p.q, s, masks, errors, &mut out[0..square]);
+    copy(masks, &mut out[square..]);
+    Refusal {
+        number: 0,
+        place: 0,
+    }
+}
