@@ -1,7 +1,7 @@
 #!/usr/bin/env python3
 """What the circuit layer's specs and proofs cite and unfold of the crates below it, against an allowed list.
 
-The circuit layer, the crates `circuit`, `planning` and `evaluation`, is to rely on nothing about the arithmetic but its published promise: its proofs name the definitions that the
+The circuit layer, the crates `circuit`, `checks`, `planning`, `working` and `evaluation`, is to rely on nothing about the arithmetic but its published promise: its proofs name the definitions that the
 promises are made of and cite laws about them, and open none of them. This script reads every `.antt` and `.rt` file of the layer,
 takes each name that comes from a crate below, and fails where a name is cited or unfolded that the list does not allow, and where
 the list allows what is not used.
@@ -14,7 +14,7 @@ import re
 import sys
 
 ROOT = pathlib.Path(__file__).resolve().parent.parent
-LAYER = ("circuit", "planning", "evaluation")
+LAYER = ("circuit", "checks", "planning", "working", "evaluation")
 COMPUTED = ("Example.antt", "Refusals.antt")  # tables of worked figures, by computation alone
 ALLOWED = ROOT / "tools" / "cited.txt"
 

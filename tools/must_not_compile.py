@@ -2,7 +2,7 @@
 """Tries the edits of crates/NAME/must-not-compile/*.edit: the compiler must refuse each, before any proof is looked at.
 
 An edit has the form of a must-fail edit (lines `file:`, `old:`, `new:`), and a line `error:` with words that the refusal must
-have. Each is applied to a copy of the repository's crates. Exit status 1 where one is not refused so.
+have. Each is applied to a copy of the repository's crates, with the libraries that are proved already. Exit status 1 where one is not refused so.
 """
 import glob
 import os
@@ -47,6 +47,9 @@ def main():
     try:
         shutil.copytree(os.path.join(ROOT, "crates"), os.path.join(room, "crates"))
         shutil.copy(os.path.join(ROOT, "crates.txt"), room)
+        for built in ("rlib", "stamp"):
+            if os.path.isdir(os.path.join(ROOT, "target", built)):
+                shutil.copytree(os.path.join(ROOT, "target", built), os.path.join(room, "target", built))
         edits = sorted(glob.glob(os.path.join(ROOT, "crates", "*", "must-not-compile", "*.edit")))
         failed = 0
         for path in edits:

@@ -1,8 +1,8 @@
 // Encryption and decryption. Each takes the call's numbers, and puts its answer into the text.
 ghost use Rattle.stream.specs.Bounds.{Placed};
-use crate::lent;
-use crate::print;
-use crate::read::SHORT;
+use calls::lent;
+use calls::print;
+use calls::read::SHORT;
 use refusal::Params;
 
 // Encrypts into `out`, and puts the answer and `out`.

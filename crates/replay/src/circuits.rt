@@ -4,10 +4,10 @@ ghost use mathlib.Core.Path.{_≡_};
 ghost use lib.ListN.{length};
 ghost use Rattle.stream.specs.Bounds.{Placed};
 use crate::lending;
-use crate::lent;
-use crate::print;
-use crate::read::MIDDLE;
-use crate::read::WIRES;
+use calls::lent;
+use calls::print;
+use calls::read::MIDDLE;
+use calls::read::WIRES;
 use refusal::Refusal;
 
 // Calls 17 and 18 have their gates in one list, as records, calls 12 and 13 in three.

@@ -1,9 +1,9 @@
 // The calls on circuit files. Each takes the call's numbers, and puts its answer into the text.
 ghost use Rattle.stream.specs.Bounds.{Placed};
-use crate::lent;
-use crate::print;
-use crate::read::FILE;
-use crate::read::TEXT;
+use calls::lent;
+use calls::print;
+use calls::read::FILE;
+use calls::read::TEXT;
 
 // Call 14: a file.
 pub fn check(call: &[i64], text: &mut [u8], at: usize) -> usize

@@ -1,9 +1,9 @@
 // Single gates. Each takes the call's numbers, and puts its answer into the text.
 ghost use Rattle.stream.specs.Bounds.{Placed};
-use crate::lent;
-use crate::print;
-use crate::read::MIDDLE;
-use crate::read::SHORT;
+use calls::lent;
+use calls::print;
+use calls::read::MIDDLE;
+use calls::read::SHORT;
 use refusal::Params;
 
 // XOR into `out`; puts the answer and `out`.

@@ -2,9 +2,9 @@
 ghost use mathlib.Core.Path.{_≡_};
 ghost use lib.ListN.{length};
 ghost use Rattle.stream.specs.Bounds.{Placed};
-use crate::lent;
-use crate::print;
-use crate::read::SHORT;
+use calls::lent;
+use calls::print;
+use calls::read::SHORT;
 use refusal::Params;
 use switchingkey::bench;
 

@@ -3,7 +3,7 @@ ghost use mathlib.Core.Path.{_≡_};
 ghost use Prim.Native.Nat.{_≤_};
 ghost use lib.ListN.{length, take};
 ghost use Rattle.circuit.specs.Circuits.{planAnswer, planBounds, evaluateAnswer, evaluateWires, evaluateBounds, evaluateScratch};
-use crate::read::WIRES;
+use calls::read::WIRES;
 use circuit::Gate;
 use refusal::Params;
 use refusal::Refusal;

@@ -8,14 +8,10 @@ mod files;
 mod gate;
 mod key;
 mod lending;
-mod lent;
-mod print;
-mod read;
 mod sets;
-mod width;
 
-use read::LONG;
-use read::STORE;
+use calls::read::LONG;
+use calls::read::STORE;
 
 // The most calls of a run. A proved loop has to end, and nothing says that the input does.
 const CALLS: usize = 4294967296;
@@ -24,7 +20,7 @@ const CALLS: usize = 4294967296;
 fn answer(call: &[i64], text: &mut [u8], at: usize, long: &mut [i64]) -> usize
     ensures { λ r. ⌜ Placed r (now (text .entry)) (now (text .exit)) ⌝ }
 {
-    match lent::word(call, 0) {
+    match calls::lent::word(call, 0) {
         1 => sets::make(call, text, at),
         2 => sets::sheet(call, text, at),
         3 => key::check_key(call, text, at),
@@ -46,13 +42,13 @@ fn answer(call: &[i64], text: &mut [u8], at: usize, long: &mut [i64]) -> usize
 
 // One call after another, until the input ends or a call cannot be read. Answers how much of the
 // text is filled.
-fn calls(block: &mut [u8], store: &mut [i64], text: &mut [u8], long: &mut [i64]) -> usize
+fn answer_all(block: &mut [u8], store: &mut [i64], text: &mut [u8], long: &mut [i64]) -> usize
     ensures { λ r. ⌜ Placed r (now (text .entry)) (now (text .exit)) ⌝ }
 {
     let mut cursor = stream::start();
     let mut at = 0;
     for _ in 0..CALLS {
-        let last = read::call(block, cursor, store);
+        let last = calls::read::call(block, cursor, store);
         let len = last.at;
         if !last.good {
             return at;
@@ -69,7 +65,7 @@ fn main() {
     let mut text = [0u8; 65536];
     let mut store = [0i64; STORE];
     let mut long = [0i64; LONG];
-    let at = calls(&mut block, &mut store, &mut text, &mut long);
+    let at = answer_all(&mut block, &mut store, &mut text, &mut long);
     let to = stream::word(&mut text, at, &[b'e', b'n', b'd']);
     let end = stream::end_line(&mut text, to);
     stream::flush(&mut text, end);

@@ -1,7 +1,7 @@
 // The calls on parameter sets. Each takes the call's numbers, and puts its answer into the text.
 ghost use Rattle.stream.specs.Bounds.{Placed};
-use crate::lent;
-use crate::print;
+use calls::lent;
+use calls::print;
 use refusal::Params;
 
 // Call 1: n, q, L, E and F.
