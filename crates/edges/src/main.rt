@@ -1,21 +1,21 @@
-// Runs the functions of `modular` on numbers from standard input, case after case, and writes what each gives. The independent
+// Runs the functions of `modular`, `tensor` and `switch` on numbers from standard input, case after case, and writes what each gives. The independent
 // program (oracle/edges.py) writes the input, and what must come out.
 //
 // A case is its number and its operands, numbers first and lists last. A list is its count and its entries.
 //
-//      1  q x              [x]q                      residue::Residue::of
-//      2  q x              [x]Q                      big_residue::BigResidue::of
-//      3  q a              round(a/q)                round::round_quotient
+//      1  q x              [x]q                      modular::residue::Residue::of
+//      2  q x              [x]Q                      modular::big_residue::BigResidue::of
+//      3  q a              round(a/q)                modular::round::round_quotient
 //      4  q x y            an entry of the tensor    tensor::fill_tensor
 //      5  q c d            the tensor                tensor::fill_tensor
 //      6  q t row          a switched entry          switch::switch_entry
 //      7  q n t key        the n switched entries    switch::fill_switch
-//      8  q xs             1 or 0                    range::all_residues
-//      9  q xs             1 or 0                    range::all_big_residues
-//     10  limit xs         1 or 0                    range::all_within
-//     11  s                the sum of sizes          key::sum_of_sizes
-//     12  s c              <s,c>                     key::inner_product
-//     13  width j s table  <s,column j>              key::inner_column
+//      8  q xs             1 or 0                    modular::range::all_residues
+//      9  q xs             1 or 0                    modular::range::all_big_residues
+//     10  limit xs         1 or 0                    modular::range::all_within
+//     11  s                the sum of sizes          modular::key::sum_of_sizes
+//     12  s c              <s,c>                     modular::key::inner_product
+//     13  width j s table  <s,column j>              modular::key::inner_column
 //
 // The first list of a case holds up to 4,096 entries and its second up to 40,960, and a list that is made up to 4,096. Each case has one line: its results, with a
 // space after each, or `refused`, where the function does not take the operands: each requirement is tested at run time before the call. A case number
