@@ -1,1 +1,2 @@
+-- What the timed calls test of their loans before they run. No section of document 01 is defined here: these calls are no part of the engine.
 pub mod Lent
