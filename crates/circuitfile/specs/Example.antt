@@ -43,6 +43,12 @@ pub example-planned : planFileBuffer exampleFile (replicate 20 255) ≡ flatMap 
 unfolding flatMap tabulate firstOf doneOr someTrue inRange XOR-bound AND-bound NOT-bound fits badParams differs overBudget byKind run gateBound wrongGate wrongGates boundsOf overGates badCounts gateRows bigEndian field isKnown fileParams fileInputs fileGateCount fileGate fileGates fileInputBounds fileBounds headRows fileGateRows planNumber planFileBuffer fourBytes
 example-planned = refl
 
+-- the same where the XOR of gate 2 has wire 3 on both sides, and on its right alone: 68, and 36
+pub example-operands : planFileBuffer (set exampleFile 37 3) (replicate 20 255) ∷ planFileBuffer (set (set exampleFile 35 0) 37 3) (replicate 20 255) ∷ []
+    ≡ map (λ last. flatMap (λ B. 0 ∷ 0 ∷ 0 ∷ B ∷ []) (2 ∷ 2 ∷ 34 ∷ 34 ∷ last ∷ [])) (68 ∷ 36 ∷ [])
+unfolding flatMap tabulate firstOf doneOr someTrue inRange XOR-bound AND-bound NOT-bound fits badParams differs overBudget byKind run gateBound wrongGate wrongGates boundsOf overGates badCounts gateRows bigEndian field isKnown fileParams fileInputs fileGateCount fileGate fileGates fileInputBounds fileBounds headRows fileGateRows planNumber planFileBuffer fourBytes
+example-operands = refl
+
 -- ---- the file with faults
 
 -- gate 1 is of kind 3, which is none
@@ -66,6 +72,11 @@ example-refused = refl
 pub example-checked : map checkAnswer (exampleFile ∷ wrongKind ∷ overBudgetFile ∷ []) ≡ 0 ∷ (9 * 65536 + 1) ∷ (10 * 65536) ∷ []
 unfolding tabulate firstOf firstTrue someTrue inRange XOR-bound AND-bound NOT-bound fits badParams differs overBudget byKind run gateBound wrongGate wrongGates boundsOf overGates badCounts gateRows placeOf bigEndian field isKnown fileParams fileInputs fileGateCount fileGate fileGates fileInputBounds fileBounds headRows fileGateRows checkNumber filePlace checkAnswer
 example-checked = refl
+
+-- 9 for gate 2, whose left is 259, and whose right is 256
+pub example-wide : map checkAnswer (set exampleFile 34 1 ∷ set exampleFile 36 1 ∷ []) ≡ replicate 2 (9 * 65536 + 2)
+unfolding tabulate firstOf firstTrue someTrue inRange XOR-bound AND-bound NOT-bound fits badParams differs overBudget byKind run gateBound wrongGate wrongGates boundsOf overGates badCounts gateRows placeOf bigEndian field isKnown fileParams fileInputs fileGateCount fileGate fileGates fileInputBounds fileBounds headRows fileGateRows checkNumber filePlace checkAnswer
+example-wide = refl
 
 -- another letter at each place of the mark, version 2 and version 257
 pub example-known : map checkAnswer (set exampleFile 0 72 ∷ set exampleFile 1 66 ∷ set exampleFile 2 85 ∷ set exampleFile 4 2 ∷ set exampleFile 3 1 ∷ []) ≡ replicate 5 (11 * 65536)

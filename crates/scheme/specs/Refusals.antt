@@ -119,8 +119,9 @@ numbers =
     ∷ is (returned (keyCheckAnswer good (one (pos 1)))) (refuses 3)
     ∷ is (returned (keyCheckAnswer good (pair (pos 0) (pos 1)))) (refuses 4)
     ∷ is (returned (keyCheckAnswer good (pair (pos 1) (− 2)))) (refuses 4)
-    -- the switching key maker: 1, 3 of each of four loans, 4, 6, 7
+    -- the switching key maker: 1, 3 of each of four loans, 4, 6, 7; and on sheet 1, where n² is not 2n
     ∷ is (returned (makeKeyAnswer good s masks errors 8)) (refuses 0)
+    ∷ is (returned (makeKeyAnswer (sheet 1) s₄ masks₄₈ errors₁₆ 64)) (refuses 0)
     ∷ is (returned (makeKeyAnswer bad s masks errors 8)) (refuses 1)
     ∷ is (returned (makeKeyAnswer good (one (pos 1)) masks errors 8)) (refuses 3)
     ∷ is (returned (makeKeyAnswer good s c errors 8)) (refuses 3)
