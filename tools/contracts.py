@@ -18,10 +18,13 @@ class Function(NamedTuple):
     requires: list
     ensures: list
 
+    def is_in_root(self):
+        """Whether its path has no module: it stands in the crate's root, or the root passes it on."""
+        return self.file in ("lib", "main") or f"\npub use {self.file}::{self.name};" in root_of(self.crate)
+
     def is_reached(self):
-        """Whether another crate can call it: public, in a library's root or in a public module of it."""
-        root = CRATES / self.crate / "src" / "lib.rt"
-        return self.public and (self.file == "lib" or root.exists() and f"\npub mod {self.file};" in root.read_text(encoding="utf-8"))
+        """Whether another crate can call it: public, in a library's root or in a public module of it, or passed on by the root."""
+        return self.public and self.file != "main" and (self.is_in_root() or f"\npub mod {self.file};" in root_of(self.crate))
 
     def names_its_answer(self):
         """Whether a line of its promise speaks of what it returns."""
@@ -31,6 +34,12 @@ class Function(NamedTuple):
         """The definition that its promise equates with what it returns, `r`, or with a buffer at exit."""
         found = re.search(rf"⌜ {re.escape(what)} ≡ ([\w-]+)", "\n".join(self.ensures))
         return found and found[1]
+
+
+def root_of(crate):
+    """The text of a library's root."""
+    path = CRATES / crate / "src" / "lib.rt"
+    return path.read_text(encoding="utf-8") if path.exists() else ""
 
 
 def functions():
@@ -51,8 +60,8 @@ ALL = list(functions())
 def find(crate, path):
     """The function of that path, in its module's file, or in the crate's root where the path has no module."""
     *before, name = path.split("::")
-    files = [before[0]] if before and before[0].islower() else ["lib", "main"]
-    return next((f for f in ALL if f.crate == crate and f.name == name and f.file in files), None)
+    module = before[0] if before and before[0].islower() else None
+    return next((f for f in ALL if f.crate == crate and f.name == name and (f.file == module if module else f.is_in_root())), None)
 
 
 def is_module(crate, path):
