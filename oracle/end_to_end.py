@@ -1,9 +1,10 @@
 """Circuits with a known key, from keys to decrypted bits, all done by the program `replay`.
 
-The program makes the switching keys (call 4), encrypts the inputs (7), evaluates (13) and
-decrypts every wire (8), in three runs, since later calls borrow earlier answers. This script keeps
-the key and judges: the true noise of every wire for its plaintext bit is at most the bound
-that was tracked, four times the bound is under q, and the decrypted bit is the plaintext bit.
+The program makes the switching keys (call 4), encrypts the inputs (7), evaluates (13, and over gate
+records 18) and decrypts every wire (8), in three runs, since later calls borrow earlier answers.
+This script keeps the key and judges: the true noise of every wire for its plaintext bit is at most
+the bound that was tracked, four times the bound is under q, the decrypted bit is the plaintext bit,
+and the two evaluations answered and left the same.
 
     python3 oracle/end_to_end.py [--seed N] [--circuits N] [--program FILE]
 
@@ -21,7 +22,7 @@ import definitions
 import search
 from engine import AND, HOUSE_SHEETS, NOT, PAPER, XOR, Params
 from replay import PROGRAM, answers_of
-from replay_circuits import draw_first, draw_gates
+from replay_circuits import both_ways, draw_first, draw_gates
 from replay_format import DECRYPT, ENCRYPT, EVALUATE, MAKE_SWITCHING_KEY, written
 
 DEFAULT_CIRCUITS = 3000
@@ -138,9 +139,12 @@ def evaluate(program, group):
     for d, (key, wires, bounds) in zip(group, lend(program, group)):
         count = len(d.gates)
         three = [list(column) for column in zip(*d.gates)]
-        calls.append((EVALUATE, [d.p, len(d.bits), *three, wires + [0] * (count * d.p.n),
-                                 bounds + [0] * count, key, [0] * d.p.n**2]))
-    for d, answer in zip(group, answers(program, calls)):
+        calls += both_ways((EVALUATE, [d.p, len(d.bits), *three, wires + [0] * (count * d.p.n),
+                                       bounds + [0] * count, key, [0] * d.p.n**2]))
+    said = answers(program, calls)
+    for d, answer, over_records in zip(group, said[::2], said[1::2]):
+        if answer != over_records:
+            raise Violation(f"{d.p}, gates {d.gates}: evaluated otherwise over gate records")
         if answer[0] == 10:
             continue
         left = done(answer, "an evaluation")
