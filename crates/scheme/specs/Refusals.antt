@@ -1,6 +1,7 @@
 -- Document 01, *Refusal numbers*, for the calls on keys and ciphertexts: every number that each call can give, on loans with that fault alone, beside loans
 -- without any at the edge of their ranges; and what a buffer holds after a refusal. One table, proved by one computed test. Numbers are written out, so that
--- no definition stands on both sides. On sheet 0 (n 2, q 16, L 2, E 1, F 1) with s = (1,1), and AND with F 0, where a bound fits.
+-- no definition stands on both sides. On sheet 0 (n 2, q 16, L 2, E 1, F 1) with s = (1,1), and AND with F 0, where a bound fits;
+-- a switching key and AND also on sheet 1.
 use mathlib.Core.Path.{_≡_, refl}
 use mathlib.Core.List.{List, [], _∷_, _++_, map, zipWith, flatMap}
 use Prim.Native.Nat.{ℕ}
