@@ -9,7 +9,7 @@ use lib.IntN.{ℤ}
 use lib.ListN.{length}
 use borrow.Author.Tests.{leb-true, eqb-true, lt-ltb}
 use Rattle.whole.specs.Tests.{and-left, and-right}
-use Rattle.whole.specs.Lists.{all}
+use Rattle.whole.specs.Lists.{every}
 use Rattle.scheme.specs.Arithmetic.{isResidue}
 use Rattle.modular.specs.Loans.{Modulus}
 
@@ -19,17 +19,17 @@ isModulus q = leb 16 q && leb q 1048576 && eqb (q % 2) 0
 
 -- what the range check tells of a key
 unfoldable pub bigResidues : ℕ → List ℤ → Bool
-bigResidues q key = isModulus q && all (isResidue (q * q)) key
+bigResidues q key = isModulus q && every (isResidue (q * q)) key
 
 -- t has n² entries and the key n rows of as many, all residues, and n is at most 1,024
 unfoldable pub switchLent : ℕ → List ℤ → List ℤ → ℕ → Bool
 switchLent q t key n =
-    isModulus q && leb n 1024 && eqb (length t) (n * n) && eqb (length key) (n * length t) && (all (isResidue q) t && all (isResidue (q * q)) key)
+    isModulus q && leb n 1024 && eqb (length t) (n * n) && eqb (length key) (n * length t) && (every (isResidue q) t && every (isResidue (q * q)) key)
 
 -- c and d have at most 1,024 entries, all residues, and their tensor has the entries given
 unfoldable pub tensorLent : ℕ → List ℤ → List ℤ → ℕ → Bool
 tensorLent q c d entries =
-    isModulus q && leb (length c) 1024 && leb (length d) 1024 && eqb entries (length c * length d) && (all (isResidue q) c && all (isResidue q) d)
+    isModulus q && leb (length c) 1024 && leb (length d) 1024 && eqb entries (length c * length d) && (every (isResidue q) c && every (isResidue q) d)
 
 -- a buffer after so many runs that each fill it with the value: as found after none
 abbrev pub afterRuns : ℕ → List ℤ → List ℤ → List ℤ
@@ -58,7 +58,7 @@ modulus q t =
 
 -- what `fill_switch` and `fill_tensor` ask
 pub switch-loans : (q : ℕ) (t key : List ℤ) (n : ℕ) → switchLent q t key n ≡ true
-    → Modulus q × (n ≤ 1024) × (length t ≡ n * n) × (length key ≡ n * length t) × (all (isResidue q) t ≡ true) × (all (isResidue (q * q)) key ≡ true)
+    → Modulus q × (n ≤ 1024) × (length t ≡ n * n) × (length key ≡ n * length t) × (every (isResidue q) t ≡ true) × (every (isResidue (q * q)) key ≡ true)
 unfolding switchLent
 switch-loans q t key n l = (
   modulus q (search (and-left, and-right) depth 8),
@@ -70,7 +70,7 @@ switch-loans q t key n l = (
 )
 
 pub tensor-loans : (q : ℕ) (c d : List ℤ) (entries : ℕ) → tensorLent q c d entries ≡ true
-    → Modulus q × (all (isResidue q) c ≡ true) × (all (isResidue q) d ≡ true) × (entries ≡ length c * length d) × (length c ≤ 1024) × (length d ≤ 1024)
+    → Modulus q × (every (isResidue q) c ≡ true) × (every (isResidue q) d ≡ true) × (entries ≡ length c * length d) × (length c ≤ 1024) × (length d ≤ 1024)
 unfolding tensorLent
 tensor-loans q c d entries l = (
   modulus q (search (and-left, and-right) depth 8),

@@ -10,7 +10,7 @@ use lib.ListN.{length, getD, take, drop, set, length-map}
 use borrow.Author.Tests.{le-leb, lt-leb}
 use Rattle.refusal.specs.declared.Params.{Params}
 use Rattle.refusal.specs.Parameters.{params}
-use Rattle.stream.specs.Bounds.{Counts}
+use Rattle.stream.specs.Bounds.{CountIn}
 use Rattle.stream.specs.Front.{front, front-counts, Put, put-none, put-more, put-all}
 use Rattle.whole.specs.Lists.{getD-map}
 use Rattle.calls.specs.Width.{word}
@@ -65,7 +65,7 @@ module _ {A : Type 0} where
   -- what it tells that n entries were taken of xs into the buffer found, and out is left: the list at its front, the rest as found
   abbrev pub Took : List A → List A → ℕ → List A → Type 0
   Took xs found n out =
-      (n ≡ length (fitting (length found) xs)) × (out ≡ front (fitting (length found) xs) found) × Counts n out × (length out ≡ length found)
+      (n ≡ length (fitting (length found) xs)) × (out ≡ front (fitting (length found) xs) found) × CountIn n out × (length out ≡ length found)
 
   -- none of them, where there is no room
   pub took-none : (xs found : List A) → length found < length xs → Took xs found 0 found

@@ -3,7 +3,7 @@
 // width, a list that is too long and a call that the store cannot hold are not read.
 ghost use mathlib.Core.Path.{_≡_};
 ghost use lib.ListN.{length};
-ghost use Rattle.stream.specs.Bounds.{Counts};
+ghost use Rattle.stream.specs.Bounds.{CountIn};
 use crate::width::count;
 use stream::Cursor;
 
@@ -219,7 +219,7 @@ fn shape(number: i64) -> [u8; 13] {
 // The next call, at the front of the store: its numbers are those before `at`. The last test never
 // fails, since a number is put only where the store has room; by it the count is known to be one.
 pub fn call(block: &mut [u8], from: Cursor, store: &mut [i64]) -> Reader
-    ensures { λ r. ⌜ Counts (r .at) (now (store .exit)) ⌝ }
+    ensures { λ r. ⌜ CountIn (r .at) (now (store .exit)) ⌝ }
     ensures { λ _. ⌜ length (now (store .exit)) ≡ length (now (store .entry)) ⌝ }
 {
     let start = Reader {

@@ -3,7 +3,7 @@ ghost use mathlib.Core.Path.{_≡_};
 ghost use mathlib.Core.Bool.{not};
 ghost use Prim.Native.Nat.{_≤_, _+_};
 ghost use lib.ListN.{length};
-ghost use Rattle.whole.specs.Lists.{all};
+ghost use Rattle.whole.specs.Lists.{every};
 ghost use Rattle.refusal.specs.First.{firstTrue};
 ghost use Rattle.scheme.specs.Arithmetic.{fits};
 ghost use Rattle.circuit.specs.Circuits.{badCounts, wrongGate, wrongGates};
@@ -18,7 +18,7 @@ pub fn are_bad_counts(inputs: u32, gates: usize) -> bool
 
 // 8: the bound of some input does not fit the budget.
 pub fn is_some_over(q: u32, bounds: &[u32]) -> bool
-    ensures { λ r. ⌜ r ≡ not (all (fits q) (now (bounds .entry))) ⌝ }
+    ensures { λ r. ⌜ r ≡ not (every (fits q) (now (bounds .entry))) ⌝ }
 {
     let mut over: u64 = 0;
     let mut i = 0;

@@ -6,7 +6,7 @@ use Prim.Native.Nat.{ℕ, zero, suc, _+_, _*_, _-_, _%_}
 use lib.Dec.{leb, ltb, eqb}
 use lib.IntN.{ℤ, pos}
 use lib.ListN.{length, getD, take, drop, replicate}
-use Rattle.whole.specs.Lists.{all, cut}
+use Rattle.whole.specs.Lists.{every, cut}
 use Rattle.refusal.specs.declared.Refusal.{Refusal}
 use Rattle.refusal.specs.declared.Params.{Params}
 use Rattle.refusal.specs.First.{Row, row, firstOf, doneOr, firstTrue, someTrue}
@@ -90,7 +90,7 @@ planRows p inputs gates Bs =
     row 1 (badParams p)
     ∷ row 2 (badCounts inputs (length gates))
     ∷ row 3 (differs (length Bs) (inputs + length gates))
-    ∷ row 8 (not (all (fits (p .q)) (take inputs Bs)))
+    ∷ row 8 (not (every (fits (p .q)) (take inputs Bs)))
     ∷ gateRows p inputs gates (take inputs Bs)
 
 unfoldable pub planAnswer : Params → ℕ → List Gate → List ℕ → Refusal
@@ -112,7 +112,7 @@ evaluateRows p inputs gates wires Bs W scratch =
     || differs (length W) (p .n * (p .n * p .n))
     || differs scratch (p .n * p .n))
     ∷ row 6 (outside (p .q) (take (inputs * p .n) wires) || outside (p .q * p .q) W)
-    ∷ row 8 (not (all (fits (p .q)) (take inputs Bs)))
+    ∷ row 8 (not (every (fits (p .q)) (take inputs Bs)))
     ∷ gateRows p inputs gates (take inputs Bs)
 
 unfoldable pub evaluateAnswer : Params → ℕ → List Gate → List ℤ → List ℕ → List ℤ → ℕ → Refusal

@@ -5,7 +5,7 @@ use mathlib.Core.List.{List, [], _∷_, flatten}
 use Prim.Native.Nat.{ℕ, _+_, _*_}
 use lib.IntN.{ℤ, pos}
 use lib.ListN.{length, take, replicate}
-use Rattle.whole.specs.Lists.{all, cut}
+use Rattle.whole.specs.Lists.{every, cut}
 use Rattle.refusal.specs.declared.Refusal.{Refusal}
 use Rattle.refusal.specs.declared.Params.{Params}
 use Rattle.refusal.specs.First.{Row, row, firstOf, doneOr}
@@ -36,7 +36,7 @@ planCoreRows p inputs ks ls rs Bs =
     row 1 (badParams p)
     ∷ row 2 (badCounts inputs (length ks))
     ∷ row 3 (uneven ks ls rs || differs (length Bs) (inputs + length ks))
-    ∷ row 8 (not (all (fits (p .q)) (take inputs Bs)))
+    ∷ row 8 (not (every (fits (p .q)) (take inputs Bs)))
     ∷ gateRows p inputs (records ks ls rs) (take inputs Bs)
 
 unfoldable pub planCoreAnswer : Params → ℕ → List ℕ → List ℕ → List ℕ → List ℕ → Refusal
@@ -60,7 +60,7 @@ evaluateCoreRows p inputs ks ls rs wires Bs W scratch =
     || differs (length W) (p .n * (p .n * p .n))
     || differs scratch (p .n * p .n))
     ∷ row 6 (outside (p .q) (take (inputs * p .n) wires) || outside (p .q * p .q) W)
-    ∷ row 8 (not (all (fits (p .q)) (take inputs Bs)))
+    ∷ row 8 (not (every (fits (p .q)) (take inputs Bs)))
     ∷ gateRows p inputs (records ks ls rs) (take inputs Bs)
 
 unfoldable pub evaluateCoreAnswer : Params → ℕ → List ℕ → List ℕ → List ℕ → List ℤ → List ℕ → List ℤ → ℕ → Refusal

@@ -2,7 +2,7 @@
 use mathlib.Core.Path.{_≡_, refl}
 use mathlib.Core.List.{List, [], _∷_}
 use Prim.Native.Nat.{ℕ}
-use Rattle.whole.specs.Lists.{all}
+use Rattle.whole.specs.Lists.{every}
 use Rattle.refusal.specs.First.{firstOf, doneOr, someTrue}
 use Rattle.refusal.specs.Parameters.{inRange, sheet, sheets, sheetTable}
 use Rattle.scheme.specs.Arithmetic.{XOR-bound, AND-bound, NOT-bound, fits}
@@ -19,7 +19,7 @@ exampleGates = gate 1 0 1 ∷ gate 2 2 0 ∷ gate 0 3 0 ∷ []
 
 -- the gates' bounds arrive with anything in them
 pub example-planned : planBounds (sheet 1) 2 exampleGates (2 ∷ 2 ∷ 7 ∷ 4294967295 ∷ 0 ∷ []) ≡ 2 ∷ 2 ∷ 34 ∷ 34 ∷ 36 ∷ []
-unfolding all firstOf doneOr someTrue inRange sheet sheets sheetTable XOR-bound AND-bound NOT-bound fits badParams differs overBudget byKind gateBound wrongGate run wrongGates boundsOf overGates badCounts gateRows planRows planBounds
+unfolding every firstOf doneOr someTrue inRange sheet sheets sheetTable XOR-bound AND-bound NOT-bound fits badParams differs overBudget byKind gateBound wrongGate run wrongGates boundsOf overGates badCounts gateRows planRows planBounds
 example-planned = refl
 
 pub example-bits : bitsOf exampleGates (1 ∷ 1 ∷ []) ≡ 1 ∷ 1 ∷ 1 ∷ 0 ∷ 1 ∷ []

@@ -7,7 +7,7 @@ use lib.IntN.{ℤ, pos}
 use lib.ListN.{replicate}
 use Rattle.whole.specs.Round.{round}
 use Rattle.whole.specs.Centred.{centred, rest}
-use Rattle.whole.specs.Lists.{all, grid, cut}
+use Rattle.whole.specs.Lists.{every, grid, cut}
 use Rattle.whole.specs.Inner.{inner}
 use Rattle.refusal.specs.declared.Params.{Params}
 use Rattle.refusal.specs.declared.Refusal.{Refusal}
@@ -99,7 +99,7 @@ planning =
     ∷ []
 
 pub planning-holds : map (λ f. f .computed) planning ≡ map (λ f. f .stated) planning
-unfolding planning planAnswer planBounds planRows planCoreAnswer planCoreBounds planCoreRows records uneven gateRows placeOf badCounts wrongGates wrongGate overGates boundsOf run gateBound byKind XOR-bound AND-bound NOT-bound firstOf doneOr someTrue firstTrue badParams inRange differs overBudget fits all
+unfolding planning planAnswer planBounds planRows planCoreAnswer planCoreBounds planCoreRows records uneven gateRows placeOf badCounts wrongGates wrongGate overGates boundsOf run gateBound byKind XOR-bound AND-bound NOT-bound firstOf doneOr someTrue firstTrue badParams inRange differs overBudget fits every
 planning-holds = refl
 
 -- ---- evaluation
@@ -163,5 +163,5 @@ evaluation =
     ∷ []
 
 pub evaluation-holds : map (λ f. f .computed) evaluation ≡ map (λ f. f .stated) evaluation
-unfolding evaluation evaluateAnswer evaluateWires evaluateBounds evaluateScratch evaluateRows evaluateCoreAnswer evaluateCoreRows records uneven gateRows placeOf badCounts wrongGates wrongGate overGates boundsOf wiresOf run gateBound gateWire byKind XOR XOR-bound NOT NOT-bound AND AND-bound switch switchEntry keyRows tensor tensorEntry grid zipWith flatMap flatten cut inner round centred rest outside isResidue firstOf doneOr someTrue firstTrue badParams inRange differs overBudget fits all
+unfolding evaluation evaluateAnswer evaluateWires evaluateBounds evaluateScratch evaluateRows evaluateCoreAnswer evaluateCoreRows records uneven gateRows placeOf badCounts wrongGates wrongGate overGates boundsOf wiresOf run gateBound gateWire byKind XOR XOR-bound NOT NOT-bound AND AND-bound switch switchEntry keyRows tensor tensorEntry grid zipWith flatMap flatten cut inner round centred rest outside isResidue firstOf doneOr someTrue firstTrue badParams inRange differs overBudget fits every
 evaluation-holds = refl

@@ -7,7 +7,7 @@ use native.Mathlib.Omega.{arith}
 use lib.IntN.{ℤ}
 use lib.ListN.{length, getD, take, drop, length-drop}
 use lib.Seq.{length-take-le}
-use Rattle.whole.specs.Lists.{Each, each-getD, getD-each, all, all-part-take, cut, length-cut, getD-cut, row-ends}
+use Rattle.whole.specs.Lists.{Each, each-getD, getD-each, every, all-part-take, cut, length-cut, getD-cut, row-ends}
 use Rattle.refusal.specs.declared.Params.{Params}
 use Rattle.refusal.specs.First.{someTrue, none-true}
 use Rattle.refusal.specs.Parameters.{InRange}
@@ -35,10 +35,10 @@ gate-makes p W k l r cs e f = rw (e, f)
 
 pub record Wire (p : Params) (c : List ℤ) : Type 0 where
   pub long : length c ≡ p .n
-  pub inside : all (isResidue (p .q)) c ≡ true
+  pub inside : every (isResidue (p .q)) c ≡ true
 
 -- so are n entries from a on, where they lie among the first `to`, which are residues
-pub part-wire : (p : Params) (a to : ℕ) (wires : List ℤ) → a + p .n ≤ to → to ≤ length wires → all (isResidue (p .q)) (take to wires) ≡ true
+pub part-wire : (p : Params) (a to : ℕ) (wires : List ℤ) → a + p .n ≤ to → to ≤ length wires → every (isResidue (p .q)) (take to wires) ≡ true
     → Wire p (take (p .n) (drop a wires))
 part-wire p a to wires h g e =
     record {
@@ -47,7 +47,7 @@ part-wire p a to wires h g e =
     }
 
 -- the inputs are, where their entries are residues
-pub input-wires : (p : Params) (k : ℕ) (wires : List ℤ) → k * p .n ≤ length wires → all (isResidue (p .q)) (take (k * p .n) wires) ≡ true
+pub input-wires : (p : Params) (k : ℕ) (wires : List ℤ) → k * p .n ≤ length wires → every (isResidue (p .q)) (take (k * p .n) wires) ≡ true
     → Each (Wire p) (cut (p .n) k wires)
 input-wires p k wires h e =
     getD-each []

@@ -11,7 +11,7 @@ use Rattle.scheme.specs.Arithmetic.{XOR-bound, AND-bound, NOT-bound, fits}
 use Rattle.scheme.specs.Calls.{badParams, differs, overBudget}
 use Rattle.circuit.specs.Circuits.{byKind, run, gateBound, wrongGate, wrongGates, boundsOf, overGates, badCounts, gateRows, placeOf}
 use Rattle.circuitfile.specs.File.{bigEndian, field, isKnown, fileParams, fileInputs, fileGateCount, fileGate, fileGates, fileInputBounds, fileBounds, headRows, fileGateRows, checkNumber, planNumber, filePlace, checkAnswer, planFileAnswer, fourBytes, planFileBuffer}
-use Rattle.circuitfile.specs.Text.{text, wordIN, wordXOR, wordAND, wordNOT, wordOK, wordREFUSED, digitsUpTo, digits, wireLine, kindWord, wireLines, largestBound, okLine, refusedLine}
+use Rattle.circuitfile.specs.Text.{text, wordIN, wordXOR, wordAND, wordNOT, wordOK, wordREFUSED, decimalUpTo, decimal, wireLine, kindWord, wireLines, largestBound, okLine, refusedLine}
 
 abbrev exampleFile : List ℕ
 exampleFile =
@@ -35,7 +35,7 @@ exampleText =
     ∷ []
 
 pub example-holds : text exampleFile ≡ exampleText
-unfolding flatMap tabulate firstOf doneOr someTrue inRange XOR-bound AND-bound NOT-bound fits badParams differs overBudget byKind run gateBound wrongGate wrongGates boundsOf overGates badCounts gateRows bigEndian field isKnown fileParams fileInputs fileGateCount fileGate fileGates fileInputBounds fileBounds headRows fileGateRows checkNumber text wordIN wordXOR wordAND wordNOT wordOK digitsUpTo digits wireLine kindWord wireLines largestBound okLine
+unfolding flatMap tabulate firstOf doneOr someTrue inRange XOR-bound AND-bound NOT-bound fits badParams differs overBudget byKind run gateBound wrongGate wrongGates boundsOf overGates badCounts gateRows bigEndian field isKnown fileParams fileInputs fileGateCount fileGate fileGates fileInputBounds fileBounds headRows fileGateRows checkNumber text wordIN wordXOR wordAND wordNOT wordOK decimalUpTo decimal wireLine kindWord wireLines largestBound okLine
 example-holds = refl
 
 -- planning on the same file, into a buffer that arrives with anything in it: 2, 2, 34, 34, 36
@@ -65,7 +65,7 @@ cutFile = take 37 exampleFile
 
 -- REFUSED 10 0
 pub example-refused : text overBudgetFile ≡ 82 ∷ 69 ∷ 70 ∷ 85 ∷ 83 ∷ 69 ∷ 68 ∷ 32 ∷ 49 ∷ 48 ∷ 32 ∷ 48 ∷ 10 ∷ []
-unfolding tabulate firstOf firstTrue doneOr someTrue inRange XOR-bound AND-bound NOT-bound fits badParams differs overBudget byKind run gateBound wrongGate wrongGates boundsOf overGates badCounts gateRows placeOf bigEndian field isKnown fileParams fileInputs fileGateCount fileGate fileGates fileInputBounds fileBounds headRows fileGateRows checkNumber filePlace text wordREFUSED digitsUpTo digits refusedLine
+unfolding tabulate firstOf firstTrue doneOr someTrue inRange XOR-bound AND-bound NOT-bound fits badParams differs overBudget byKind run gateBound wrongGate wrongGates boundsOf overGates badCounts gateRows placeOf bigEndian field isKnown fileParams fileInputs fileGateCount fileGate fileGates fileInputBounds fileBounds headRows fileGateRows checkNumber filePlace text wordREFUSED decimalUpTo decimal refusedLine
 example-refused = refl
 
 -- as it stands; 9 for gate 1, and 10 for gate 0

@@ -16,10 +16,10 @@ use Rattle.refusal.specs.First.{doneOr-done, doneOr-refused}
 use Rattle.circuit.specs.Circuits.{byKind}
 use Rattle.circuit.specs.Records.{kind-neither}
 use Rattle.circuitfile.specs.File.{field, fileInputs, fileGateCount, fileGate, fileParams, fileBounds, checkNumber}
-use Rattle.circuitfile.specs.Text.{wordIN, wordXOR, wordAND, wordNOT, wordOK, wordREFUSED, digits, wireLine, kindWord, wireLines, okLine, refusedLine, largestBound, text, textAnswer, textBuffer}
+use Rattle.circuitfile.specs.Text.{wordIN, wordXOR, wordAND, wordNOT, wordOK, wordREFUSED, decimal, wireLine, kindWord, wireLines, okLine, refusedLine, largestBound, text, textAnswer, textBuffer}
 use Rattle.circuitfile.specs.Order.{checkRefusal}
 use Rattle.circuitfile.specs.Wires.{length-bounds}
-use Rattle.circuitfile.specs.Digits.{digits-few}
+use Rattle.circuitfile.specs.Digits.{decimal-few}
 
 -- ---- the word of a wire
 
@@ -57,7 +57,7 @@ module _ (file : List ℕ) (wire : ℕ) where
 -- ---- lines
 
 -- the line of a wire in three fields, each with the byte that ends it
-pub wire-fields : (wire : ℕ) (kind : List ℕ) (bound : ℕ) → (digits wire ++ (32 ∷ [])) ++ (kind ++ (32 ∷ [])) ++ (digits bound ++ (10 ∷ [])) ≡ wireLine wire kind bound
+pub wire-fields : (wire : ℕ) (kind : List ℕ) (bound : ℕ) → (decimal wire ++ (32 ∷ [])) ++ (kind ++ (32 ∷ [])) ++ (decimal bound ++ (10 ∷ [])) ≡ wireLine wire kind bound
 unfolding wireLine
 wire-fields wire kind bound = simp append-assoc
 
@@ -80,9 +80,9 @@ line-at file wire e h =
 
 -- the last line: a word, with its space, and two numbers
 unfoldable pub pairLine : List ℕ → ℕ → ℕ → List ℕ
-pairLine word x y = word ++ (digits x ++ (32 ∷ [])) ++ (digits y ++ (10 ∷ []))
+pairLine word x y = word ++ (decimal x ++ (32 ∷ [])) ++ (decimal y ++ (10 ∷ []))
 
-pair-flat : (word : List ℕ) (x y : ℕ) → pairLine (word ++ (32 ∷ [])) x y ≡ word ++ (32 ∷ []) ++ digits x ++ (32 ∷ []) ++ digits y ++ (10 ∷ [])
+pair-flat : (word : List ℕ) (x y : ℕ) → pairLine (word ++ (32 ∷ [])) x y ≡ word ++ (32 ∷ []) ++ decimal x ++ (32 ∷ []) ++ decimal y ++ (10 ∷ [])
 unfolding pairLine
 pair-flat word x y = simp append-assoc
 
@@ -134,8 +134,8 @@ pub length-field : (xs : List ℕ) (end : ℕ) → length (xs ++ (end ∷ [])) �
 length-field xs end = length-append xs (end ∷ [])
 
 -- a wire has at most 4 digits, and a number of 32 bits at most 10
-pub wire-few : (x : ℕ) → x < 10000 → length (digits x) ≤ 4
-wire-few x h = digits-few 3 x (omega arith)
+pub wire-few : (x : ℕ) → x < 10000 → length (decimal x) ≤ 4
+wire-few x h = decimal-few 3 x (omega arith)
 
-pub word-few : (x : ℕ) → x < 4294967296 → length (digits x) ≤ 10
-word-few x h = digits-few 9 x (omega arith)
+pub word-few : (x : ℕ) → x < 4294967296 → length (decimal x) ≤ 10
+word-few x h = decimal-few 9 x (omega arith)

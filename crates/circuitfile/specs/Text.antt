@@ -36,21 +36,21 @@ unfoldable pub wordREFUSED : List ℕ
 wordREFUSED = 82 ∷ 69 ∷ 70 ∷ 85 ∷ 83 ∷ 69 ∷ 68 ∷ []
 
 -- the decimal digits of x, where x has at most `most` of them
-unfoldable pub digitsUpTo : ℕ → ℕ → List ℕ
-digitsUpTo zero x = []
-digitsUpTo (suc most) x =
-    let longer = digitsUpTo most (x / 10) ++ ((48 + x % 10) ∷ []) in
+unfoldable pub decimalUpTo : ℕ → ℕ → List ℕ
+decimalUpTo zero x = []
+decimalUpTo (suc most) x =
+    let longer = decimalUpTo most (x / 10) ++ ((48 + x % 10) ∷ []) in
     cond (ltb x 10) ((48 + x) ∷ []) longer
 
 -- a number has no more digits than its value plus one
-unfoldable pub digits : ℕ → List ℕ
-digits x = digitsUpTo (suc x) x
+unfoldable pub decimal : ℕ → List ℕ
+decimal x = decimalUpTo (suc x) x
 
 -- ---- lines
 
 -- the fields wire, kind and bound
 unfoldable pub wireLine : ℕ → List ℕ → ℕ → List ℕ
-wireLine wire kind bound = digits wire ++ space ++ kind ++ space ++ digits bound ++ newline
+wireLine wire kind bound = decimal wire ++ space ++ kind ++ space ++ decimal bound ++ newline
 
 -- IN for an input, and XOR, AND or NOT for a gate
 unfoldable pub kindWord : List ℕ → ℕ → List ℕ
@@ -71,11 +71,11 @@ largestBound q = (q - 1) / 4
 -- the output's bound, which is the last gate's, and the largest bound that fits
 unfoldable pub okLine : List ℕ → List ℕ
 okLine file =
-    wordOK ++ space ++ digits (getD (fileBounds file) (fileInputs file + fileGateCount file - 1) 0)
-    ++ space ++ digits (largestBound (fileParams file .q)) ++ newline
+    wordOK ++ space ++ decimal (getD (fileBounds file) (fileInputs file + fileGateCount file - 1) 0)
+    ++ space ++ decimal (largestBound (fileParams file .q)) ++ newline
 
 unfoldable pub refusedLine : ℕ → ℕ → List ℕ
-refusedLine k at = wordREFUSED ++ space ++ digits k ++ space ++ digits at ++ newline
+refusedLine k at = wordREFUSED ++ space ++ decimal k ++ space ++ decimal at ++ newline
 
 -- ---- the text
 

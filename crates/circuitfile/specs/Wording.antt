@@ -10,7 +10,7 @@ use lib.Dec.{ltb}
 use borrow.Author.Tests.{ltb-true, ltb-false, lt-ltb}
 use Rattle.scheme.specs.Arithmetic.{fits}
 use Rattle.circuitfile.specs.File.{bigEndian, fourBytes}
-use Rattle.circuitfile.specs.Text.{digitsUpTo, digits, largestBound}
+use Rattle.circuitfile.specs.Text.{decimalUpTo, decimal, largestBound}
 
 pub four-bytes-read : (x : ℕ) → x < 4294967296 → bigEndian (fourBytes x) ≡ x
 unfolding bigEndian fourBytes
@@ -21,31 +21,31 @@ four-bytes-read x h =
     rw (two, three, top, div-add-mod (x / 256 / 256) 256, div-add-mod (x / 256) 256, div-add-mod x 256)
 
 -- what decimal digits say
-unfoldable pub decimal : List ℕ → ℕ
-decimal ds = foldl (λ x d. 10 * x + (d - 48)) 0 ds
+unfoldable pub readDecimal : List ℕ → ℕ
+readDecimal ds = foldl (λ x d. 10 * x + (d - 48)) 0 ds
 
-digit-more : (ds : List ℕ) (d : ℕ) → decimal (ds ++ (d ∷ [])) ≡ 10 * decimal ds + (d - 48)
-unfolding decimal
+digit-more : (ds : List ℕ) (d : ℕ) → readDecimal (ds ++ (d ∷ [])) ≡ 10 * readDecimal ds + (d - 48)
+unfolding readDecimal
 digit-more ds d = foldl-append (λ x d. 10 * x + (d - 48)) 0 ds (d ∷ [])
 
-up-to-read : (most x : ℕ) → x < most → decimal (digitsUpTo most x) ≡ x
-unfolding digitsUpTo decimal
+up-to-read : (most x : ℕ) → x < most → readDecimal (decimalUpTo most x) ≡ x
+unfolding decimalUpTo readDecimal
 up-to-read zero x h = absurd (not-suc-le-zero h)
 up-to-read (suc most) x h = by-length (ltb x 10) refl (up-to-read most (x / 10))
   where
     longer : List ℕ
-    longer = digitsUpTo most (x / 10) ++ ((48 + x % 10) ∷ [])
+    longer = decimalUpTo most (x / 10) ++ ((48 + x % 10) ∷ [])
 
-    by-length : (t : Bool) → ltb x 10 ≡ t → (x / 10 < most → decimal (digitsUpTo most (x / 10)) ≡ x / 10) → decimal (cond t ((48 + x) ∷ []) longer) ≡ x
+    by-length : (t : Bool) → ltb x 10 ≡ t → (x / 10 < most → readDecimal (decimalUpTo most (x / 10)) ≡ x / 10) → readDecimal (cond t ((48 + x) ∷ []) longer) ≡ x
     by-length true e more = omega arith
     by-length false e more =
         let ten : 10 ≤ x = ltb-false x 10 e in
-        let shorter : decimal (digitsUpTo most (x / 10)) ≡ x / 10 = more (omega arith) in
-        digit-more (digitsUpTo most (x / 10)) (48 + x % 10) ∙ omega arith
+        let shorter : readDecimal (decimalUpTo most (x / 10)) ≡ x / 10 = more (omega arith) in
+        digit-more (decimalUpTo most (x / 10)) (48 + x % 10) ∙ omega arith
 
-pub digits-read : (x : ℕ) → decimal (digits x) ≡ x
-unfolding digits
-digits-read x = up-to-read (suc x) x (omega arith)
+pub decimal-read : (x : ℕ) → readDecimal (decimal x) ≡ x
+unfolding decimal
+decimal-read x = up-to-read (suc x) x (omega arith)
 
 -- a bound fits exactly when it is at most the largest
 pub fits-largest : (q B : ℕ) → 0 < q → fits q B ≡ true → B ≤ largestBound q

@@ -10,7 +10,7 @@ use lib.ListN.{length, take, length-take}
 use mir.Syntax.{w64}
 use mir.Val.{Fits}
 use borrow.Author.Tests.{not-false}
-use Rattle.stream.specs.Bounds.{Counts}
+use Rattle.stream.specs.Bounds.{CountIn}
 
 -- the test that was asked is true, where `if !asked { return .. }` went on
 pub passed : {asked test : Bool} → asked ≡ test → not asked ≡ false → test ≡ true
@@ -31,7 +31,7 @@ pub of-part : (P : ℕ → Type 0) (n : ℕ) (xs : List ℤ) → n ≤ length xs
 of-part P n xs h p = rw (part-length n xs h) p
 
 -- and n counts them
-pub counts : (n : ℕ) (xs : List ℤ) → n ≤ length xs → Counts n xs
+pub counts : (n : ℕ) (xs : List ℤ) → n ≤ length xs → CountIn n xs
 counts n xs h = (h, simp length-take (omega arith))
 
 -- n² of an n of at most 1,024

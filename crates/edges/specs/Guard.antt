@@ -12,7 +12,7 @@ use lib.ListN.{length, take, getD}
 use lib.Seq.{take-all}
 use borrow.Author.Tests.{leb-true, eqb-true}
 use Rattle.whole.specs.Tests.{clash, and-left, and-right, and-both}
-use Rattle.whole.specs.Lists.{all, all-suc, all-getD, all-each}
+use Rattle.whole.specs.Lists.{every, every-suc, every-getD, every-each}
 use Rattle.modular.specs.Loans.{Modulus, UpTo}
 use Rattle.stream.specs.Ranges.{inside, up-from}
 
@@ -45,38 +45,38 @@ unfolding isUpTo
 at-most most x e = leb-true (natAbs x) most e
 
 -- where all entries pass, every entry is at most `most` in size
-pub up-to : (most : ℕ) (xs : List ℤ) → all (isUpTo most) xs ≡ true → UpTo most xs
-up-to most xs e = all-each (isUpTo most) xs (at-most most) e
+pub up-to : (most : ℕ) (xs : List ℤ) → every (isUpTo most) xs ≡ true → UpTo most xs
+up-to most xs e = every-each (isUpTo most) xs (at-most most) e
 
 -- one more entry passes
-pub all-more : (p : ℤ → Bool) (xs : List ℤ) (i : ℕ) → i < length xs → all p (take i xs) ≡ true → p (getD xs i (pos 0)) ≡ true → all p (take (i + 1) xs) ≡ true
-all-more p xs i h e f = rw (add-one, all-suc p xs i (pos 0)) (and-both e f)
+pub every-more : (p : ℤ → Bool) (xs : List ℤ) (i : ℕ) → i < length xs → every p (take i xs) ≡ true → p (getD xs i (pos 0)) ≡ true → every p (take (i + 1) xs) ≡ true
+every-more p xs i h e f = rw (add-one, every-suc p xs i (pos 0)) (and-both e f)
 
 -- one entry fails
-pub all-less : (p : ℤ → Bool) (xs : List ℤ) (i : ℕ) → i < length xs → p (getD xs i (pos 0)) ≡ false → all p xs ≡ false
-all-less p xs i h f = by-test (all p xs) refl
+pub every-less : (p : ℤ → Bool) (xs : List ℤ) (i : ℕ) → i < length xs → p (getD xs i (pos 0)) ≡ false → every p xs ≡ false
+every-less p xs i h f = by-test (every p xs) refl
   where
-    by-test : (t : Bool) → all p xs ≡ t → t ≡ false
-    by-test true e = clash (all-getD p xs i (pos 0) e h) f
+    by-test : (t : Bool) → every p xs ≡ t → t ≡ false
+    by-test true e = clash (every-getD p xs i (pos 0) e h) f
     by-test false e = refl
 
 -- all entries were tested
-pub all-passed : (p : ℤ → Bool) (xs : List ℤ) (i : ℕ) → length xs ≤ i → all p (take i xs) ≡ true → all p xs ≡ true
-all-passed p xs i h e = rw take-all at e
+pub every-passed : (p : ℤ → Bool) (xs : List ℤ) (i : ℕ) → length xs ≤ i → every p (take i xs) ≡ true → every p xs ≡ true
+every-passed p xs i h e = rw take-all at e
 
 -- the entries before one that fails, where those pass
-pub leading-less : (p : ℤ → Bool) (xs : List ℤ) (i : ℕ) → i < length xs → all p (take i xs) ≡ true → p (getD xs i (pos 0)) ≡ false → leading p xs ≡ take i xs
-unfolding leading all
+pub leading-less : (p : ℤ → Bool) (xs : List ℤ) (i : ℕ) → i < length xs → every p (take i xs) ≡ true → p (getD xs i (pos 0)) ≡ false → leading p xs ≡ take i xs
+unfolding leading every
 leading-less p [] i h e f = absurd (not-suc-le-zero h)
 leading-less p (x ∷ xs) zero h e f = rw f
 leading-less p (x ∷ xs) (suc i) h e f =
-    rw (and-left (p x) (all p (take i xs)) e) (ap (λ (r : List ℤ). x ∷ r) (leading-less p xs i (le-of-suc-le-suc h) (and-right (p x) (all p (take i xs)) e) f))
+    rw (and-left (p x) (every p (take i xs)) e) (ap (λ (r : List ℤ). x ∷ r) (leading-less p xs i (le-of-suc-le-suc h) (and-right (p x) (every p (take i xs)) e) f))
 
 -- all entries, where all pass
-pub leading-all : (p : ℤ → Bool) (xs : List ℤ) → all p xs ≡ true → leading p xs ≡ xs
-unfolding leading all
+pub leading-all : (p : ℤ → Bool) (xs : List ℤ) → every p xs ≡ true → leading p xs ≡ xs
+unfolding leading every
 leading-all p [] e = refl
-leading-all p (x ∷ xs) e = rw (and-left (p x) (all p xs) e) (ap (λ (r : List ℤ). x ∷ r) (leading-all p xs (and-right (p x) (all p xs) e)))
+leading-all p (x ∷ xs) e = rw (and-left (p x) (every p xs) e) (ap (λ (r : List ℤ). x ∷ r) (leading-all p xs (and-right (p x) (every p xs) e)))
 
 -- what the functions of `modular` ask of a modulus
 pub modulus-is : (q : ℤ) → isModulus q ≡ true → Modulus (natAbs q)

@@ -1,6 +1,6 @@
 // Answers a case by its number.
 ghost use Rattle.modular.specs.Loans.{Modulus};
-ghost use Rattle.stream.specs.Bounds.{Counts, Placed};
+ghost use Rattle.stream.specs.Bounds.{CountIn, Placed};
 use crate::case::Case;
 use crate::case::Head;
 use crate::guard;
@@ -11,7 +11,7 @@ use crate::print;
 
 // Writes the line of a case. Its lists stand at the front of `left` and `right`.
 pub fn answer(case: Case, left: &[i64], right: &[i64], text: &mut [u8], at: usize) -> usize
-    requires { ⌜ Counts (case .left) (now left) × Counts (case .right) (now right) ⌝ }
+    requires { ⌜ CountIn (case .left) (now left) × CountIn (case .right) (now right) ⌝ }
     ensures { λ r. ⌜ Placed r (now (text .entry)) (now (text .exit)) ⌝ }
 {
     let n = case.left;

@@ -1,5 +1,5 @@
 // Reads a case: its number, its numbers and its lists.
-ghost use Rattle.stream.specs.Bounds.{Counts};
+ghost use Rattle.stream.specs.Bounds.{CountIn};
 use stream::Cursor;
 use stream::Taken;
 use stream::Token;
@@ -56,7 +56,7 @@ fn number_if(wanted: bool, block: &mut [u8], c: Cursor) -> Token {
 
 // The next list where one is wanted, and otherwise an empty one.
 fn list_if(wanted: bool, block: &mut [u8], c: Cursor, out: &mut [i64]) -> Taken
-    ensures { λ r. ⌜ Counts (r .len) (now (out .exit)) ⌝ }
+    ensures { λ r. ⌜ CountIn (r .len) (now (out .exit)) ⌝ }
 {
     if wanted {
         return stream::list(block, c, out);
@@ -88,8 +88,8 @@ fn read_head(block: &mut [u8], c: Cursor) -> Head {
 
 // The next case, with its lists at the front of `left` and `right`. Nothing more is read once an operand is missing.
 pub fn read(block: &mut [u8], c: Cursor, left: &mut [i64], right: &mut [i64]) -> Case
-    ensures { λ r. ⌜ Counts (r .left) (now (left .exit)) ⌝ }
-    ensures { λ r. ⌜ Counts (r .right) (now (right .exit)) ⌝ }
+    ensures { λ r. ⌜ CountIn (r .left) (now (left .exit)) ⌝ }
+    ensures { λ r. ⌜ CountIn (r .right) (now (right .exit)) ⌝ }
 {
     let head = read_head(block, c);
     let m = lists(head.number);

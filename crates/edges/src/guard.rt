@@ -4,9 +4,9 @@ ghost use Prim.Native.Nat.{_≤_, _<_};
 ghost use lib.Dec.{leb};
 ghost use lib.ListN.{length};
 ghost use Rattle.whole.specs.Inner.{sizes};
-ghost use Rattle.whole.specs.Lists.{all};
+ghost use Rattle.whole.specs.Lists.{every};
 ghost use Rattle.modular.specs.Loans.{Modulus};
-ghost use Rattle.stream.specs.Bounds.{Counts};
+ghost use Rattle.stream.specs.Bounds.{CountIn};
 ghost use Rattle.stream.specs.Front.{front};
 ghost use Rattle.stream.specs.Ranges.{isNarrow};
 ghost use Rattle.edges.specs.Guard.{isUpTo, asModulus, asCount, leading};
@@ -48,7 +48,7 @@ pub fn is_up_to(most: u64, x: i64) -> bool
 
 // Whether every entry is.
 pub fn all_up_to(most: u64, xs: &[i64]) -> bool
-    ensures { λ r. ⌜ r ≡ all (isUpTo most) (now (xs .entry)) ⌝ }
+    ensures { λ r. ⌜ r ≡ every (isUpTo most) (now (xs .entry)) ⌝ }
 {
     for i in 0..xs.len() {
         if !is_up_to(most, xs[i]) {
@@ -69,9 +69,9 @@ pub fn is_small(s: &[i32]) -> bool
 // Copies numbers of 32 bits to the front of `to`, up to the first that is none, and tells whether all of them are.
 pub fn narrow(from: &[i64], to: &mut [i32]) -> bool
     requires { ⌜ length (now from) ≤ length (now to) ⌝ }
-    ensures { λ r. ⌜ r ≡ all isNarrow (now (from .entry)) ⌝ }
+    ensures { λ r. ⌜ r ≡ every isNarrow (now (from .entry)) ⌝ }
     ensures { λ _. ⌜ now (to .exit) ≡ front (leading isNarrow (now (from .entry))) (now (to .entry)) ⌝ }
-    ensures { λ _. ⌜ Counts (length (now (from .entry))) (now (to .exit)) ⌝ }
+    ensures { λ _. ⌜ CountIn (length (now (from .entry))) (now (to .exit)) ⌝ }
 {
     for i in 0..from.len() {
         let x = from[i];

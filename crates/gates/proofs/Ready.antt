@@ -6,7 +6,7 @@ use Prim.Native.Nat.{ℕ, _*_, _<_}
 use lib.IntN.{ℤ}
 use lib.ListN.{length}
 use Rattle.whole.specs.Tests.{or-left, or-right}
-use Rattle.whole.specs.Lists.{all}
+use Rattle.whole.specs.Lists.{every}
 use Rattle.refusal.specs.declared.Params.{Params}
 use Rattle.refusal.specs.First.{firstOf, rising, Clear, first-clear}
 use Rattle.refusal.specs.Parameters.{InRange}
@@ -19,8 +19,8 @@ pub record XorReady (p : Params) (c : List ℤ) (B1 : ℕ) (d : List ℤ) (B2 re
   pub left-long : length c ≡ p .n
   pub right-long : length d ≡ p .n
   pub room : result ≡ p .n
-  pub left-inside : all (isResidue (p .q)) c ≡ true
-  pub right-inside : all (isResidue (p .q)) d ≡ true
+  pub left-inside : every (isResidue (p .q)) c ≡ true
+  pub right-inside : every (isResidue (p .q)) d ≡ true
   pub fits : 4 * XOR-bound B1 B2 < p .q
 
 pub xor-ready : (p : Params) (c : List ℤ) (B1 : ℕ) (d : List ℤ) (B2 result : ℕ) → firstOf (xorRows p c B1 d B2 result) ≡ 0
@@ -42,7 +42,7 @@ pub record NotReady (p : Params) (c : List ℤ) (B result : ℕ) : Type 0 where
   pub range : InRange p
   pub long : length c ≡ p .n
   pub room : result ≡ p .n
-  pub inside : all (isResidue (p .q)) c ≡ true
+  pub inside : every (isResidue (p .q)) c ≡ true
 
 pub not-ready : (p : Params) (c : List ℤ) (B result : ℕ) → firstOf (notRows p c B result) ≡ 0 → NotReady p c B result
 unfolding notRows rising
@@ -62,9 +62,9 @@ pub record AndReady (p : Params) (c : List ℤ) (B1 : ℕ) (d : List ℤ) (B2 : 
   pub key-long : length W ≡ p .n * (p .n * p .n)
   pub scratch-long : scratch ≡ p .n * p .n
   pub room : result ≡ p .n
-  pub left-inside : all (isResidue (p .q)) c ≡ true
-  pub right-inside : all (isResidue (p .q)) d ≡ true
-  pub key-inside : all (isResidue (p .q * p .q)) W ≡ true
+  pub left-inside : every (isResidue (p .q)) c ≡ true
+  pub right-inside : every (isResidue (p .q)) d ≡ true
+  pub key-inside : every (isResidue (p .q * p .q)) W ≡ true
   pub left-fits : 4 * B1 < p .q
   pub right-fits : 4 * B2 < p .q
   pub fits : 4 * AND-bound (p .n) (p .q) (p .l) (p .f) B1 B2 < p .q

@@ -4,7 +4,7 @@ ghost use mathlib.Core.Path.{_≡_};
 ghost use mathlib.Core.Bool.{true};
 ghost use Prim.Native.Nat.{_*_, _≤_, _<_};
 ghost use lib.ListN.{length};
-ghost use Rattle.whole.specs.Lists.{all};
+ghost use Rattle.whole.specs.Lists.{every};
 ghost use Rattle.refusal.specs.First.{firstOf};
 ghost use Rattle.refusal.specs.Parameters.{InRange};
 ghost use Rattle.scheme.specs.Arithmetic.{isResidue, XOR, NOT, tensor, AND, AND-bound};
@@ -24,7 +24,7 @@ use tensor::fill_tensor;
 
 // XOR: entry by entry [c+d]q.
 pub fn xor_into(q: u32, c: &[i64], d: &[i64], out: &mut [i64])
-    requires { ⌜ Modulus q × (length (now c) ≡ length (now out)) × (length (now d) ≡ length (now out)) × (all (isResidue q) (now c) ≡ true) × (all (isResidue q) (now d) ≡ true) ⌝ }
+    requires { ⌜ Modulus q × (length (now c) ≡ length (now out)) × (length (now d) ≡ length (now out)) × (every (isResidue q) (now c) ≡ true) × (every (isResidue q) (now d) ≡ true) ⌝ }
     ensures { λ r. ⌜ now (out .exit) ≡ XOR q (now (c .entry)) (now (d .entry)) ⌝ }
 {
     let mut i = 0;
@@ -36,7 +36,7 @@ pub fn xor_into(q: u32, c: &[i64], d: &[i64], out: &mut [i64])
 
 // NOT: q/2 added to entry 0 and reduced.
 pub fn not_into(q: u32, c: &[i64], out: &mut [i64])
-    requires { ⌜ Modulus q × (length (now c) ≡ length (now out)) × (0 < length (now out)) × (all (isResidue q) (now c) ≡ true) ⌝ }
+    requires { ⌜ Modulus q × (length (now c) ≡ length (now out)) × (0 < length (now out)) × (every (isResidue q) (now c) ≡ true) ⌝ }
     ensures { λ r. ⌜ now (out .exit) ≡ NOT q (now (c .entry)) ⌝ }
 {
     copy(c, out);
@@ -46,7 +46,7 @@ pub fn not_into(q: u32, c: &[i64], out: &mut [i64])
 
 // AND: tensor, then switch. The scratch is left with the tensor.
 pub fn and_into(q: u32, c: &[i64], d: &[i64], key: &[i64], scratch: &mut [i64], out: &mut [i64])
-    requires { ⌜ Modulus q × (length (now out) ≤ 1024) × (length (now c) ≡ length (now out)) × (length (now d) ≡ length (now out)) × (length (now scratch) ≡ length (now out) * length (now out)) × (length (now key) ≡ length (now out) * (length (now out) * length (now out))) × (all (isResidue q) (now c) ≡ true) × (all (isResidue q) (now d) ≡ true) × (all (isResidue (q * q)) (now key) ≡ true) ⌝ }
+    requires { ⌜ Modulus q × (length (now out) ≤ 1024) × (length (now c) ≡ length (now out)) × (length (now d) ≡ length (now out)) × (length (now scratch) ≡ length (now out) * length (now out)) × (length (now key) ≡ length (now out) * (length (now out) * length (now out))) × (every (isResidue q) (now c) ≡ true) × (every (isResidue q) (now d) ≡ true) × (every (isResidue (q * q)) (now key) ≡ true) ⌝ }
     ensures { λ r. ⌜ now (out .exit) ≡ AND (length (now (out .entry))) q (now (key .entry)) (now (c .entry)) (now (d .entry)) ⌝ }
     ensures { λ r. ⌜ now (scratch .exit) ≡ tensor q (now (c .entry)) (now (d .entry)) ⌝ }
 {

@@ -8,7 +8,7 @@ use native.Mathlib.Omega.{arith}
 use lib.ListN.{length, getD, take, drop, replicate, getD-replicate, length-append, length-drop}
 use lib.Seq.{take-at, length-take-le}
 use Rattle.whole.specs.Tests.{or-neither}
-use Rattle.whole.specs.Lists.{tabulate, length-tabulate, getD-tabulate, all, getD-all}
+use Rattle.whole.specs.Lists.{tabulate, length-tabulate, getD-tabulate, every, getD-every}
 use Rattle.refusal.specs.declared.Params.{Params}
 use Rattle.refusal.specs.declared.Refusal.{Refusal}
 use Rattle.refusal.specs.First.{firstOf, doneOr, doneOr-done}
@@ -56,10 +56,10 @@ module _ (file : List ℕ) where
   getD-column part g h = getD-tabulate (fileGateCount file) (λ g. part (fileGate file g)) g 0 h
 
   -- each input's bound fits
-  inputs-fit : HeadRight file → all (fits (fileParams file .q)) (fileInputBounds file) ≡ true
+  inputs-fit : HeadRight file → every (fits (fileParams file .q)) (fileInputBounds file) ≡ true
   unfolding fileInputBounds
   inputs-fit r =
-      getD-all (fits (fileParams file .q)) (fileInputBounds file) 0
+      getD-every (fits (fileParams file .q)) (fileInputBounds file) 0
       (λ i h.
       let below : i < fileInputs file = rw length-inputs at h in
       rw (getD-replicate (fileInputs file) i (fileParams file .e) 0 below) (below-fits (fileParams file .q) (fileParams file .e) (r .range .e-fits)))

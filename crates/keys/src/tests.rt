@@ -13,10 +13,10 @@ use modular::range::all_residues;
 use modular::range::all_within;
 
 // 3: a length differs from the one required.
-pub fn length_differs(length: usize, required: usize) -> bool
-    ensures { λ r. ⌜ r ≡ differs length required ⌝ }
+pub fn length_differs(had: usize, required: usize) -> bool
+    ensures { λ r. ⌜ r ≡ differs had required ⌝ }
 {
-    length != required
+    had != required
 }
 
 // 4: s0 is not 1, or the key's sum exceeds L.

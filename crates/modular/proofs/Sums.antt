@@ -12,7 +12,7 @@ use mir.Val.{SFits}
 use mir.Facts.{toZ-ofZ}
 use Rattle.whole.specs.Size.{size-add}
 use Rattle.whole.specs.Machine.{word, fits64}
-use Rattle.whole.specs.Inner.{inner, inner-all, inner-suc, inner-turn, sizes}
+use Rattle.whole.specs.Inner.{inner, inner-every, inner-suc, inner-turn, sizes}
 use Rattle.modular.specs.Loans.{UpTo}
 
 -- the invariant of a loop that sums products: the first i are summed
@@ -25,7 +25,7 @@ unfolding inner
 sum-start s c = record { within = omega arith; so-far = refl }
 
 pub sum-end : {s c : List ℤ} {sum : ℤ} {i : ℕ} → Summed s c sum i → length s ≤ i → length c ≤ i → sum ≡ inner s c
-sum-end {s} {c} {sum} {i} f h k = f .so-far ∙ inner-all s c i h k
+sum-end {s} {c} {sum} {i} f h k = f .so-far ∙ inner-every s c i h k
 
 -- the next product, x·y, is added: it fits a word, the new sum does, and that is the sum of the first i+1
 pub record Turn (s c : List ℤ) (i : ℕ) (sum x y : ℤ) : Type 0 where

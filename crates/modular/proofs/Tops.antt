@@ -17,7 +17,7 @@ use mir.Syntax.{w64}
 use mir.Val.{ofZ}
 use borrow.Author.Tests.{ltb-true, ltb-false, leb-true, leb-false, lt-ltb, le-ltb, le-leb, lt-leb}
 use Rattle.whole.specs.Tests.{and-both}
-use Rattle.whole.specs.Lists.{all, all-suc}
+use Rattle.whole.specs.Lists.{every, every-suc}
 use Rattle.scheme.specs.Arithmetic.{isResidue}
 
 -- 2^63: a word has the top bit from here on
@@ -100,10 +100,10 @@ and-crossed false b c d = refl
 pub record Parted (p : ℤ → Bool) (xs : List ℤ) (some each i : ℕ) : Type 0 where
   pub within : i ≤ length xs
   pub fits : each < words
-  pub so-far : lowHigh some each ≡ all p (take i xs)
+  pub so-far : lowHigh some each ≡ every p (take i xs)
 
 pub parted-start : (p : ℤ → Bool) (xs : List ℤ) → Parted p xs 0 18446744073709551615 0
-unfolding all
+unfolding every
 parted-start p xs = record { within = omega arith; fits = omega arith; so-far = refl }
 
 -- the next entry's numbers are lowHigh where it passes
@@ -116,8 +116,8 @@ parted-step {p} {xs} {some} {each} {i} f y z l h e =
       so-far =
           ap₂ _&&_ (or-top some y) (and-top each z (f .fits) l)
           ∙ and-crossed (ltb some top) (leb top each) (ltb y top) (leb top z)
-          ∙ rw (add-one, all-suc p xs i (pos 0)) (ap₂ _&&_ (f .so-far) e);
+          ∙ rw (add-one, every-suc p xs i (pos 0)) (ap₂ _&&_ (f .so-far) e);
     }
 
-pub parted-end : {p : ℤ → Bool} {xs : List ℤ} {some each i : ℕ} → Parted p xs some each i → length xs ≤ i → lowHigh some each ≡ all p xs
+pub parted-end : {p : ℤ → Bool} {xs : List ℤ} {some each i : ℕ} → Parted p xs some each i → length xs ≤ i → lowHigh some each ≡ every p xs
 parted-end f h = f .so-far ∙ rw take-all

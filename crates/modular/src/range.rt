@@ -2,7 +2,7 @@ ghost use mathlib.Core.Path.{_≡_};
 ghost use Prim.Native.Nat.{ℕ, _*_, _/_, _+_, _<_, _≤_};
 ghost use lib.Dec.{leb};
 ghost use lib.IntN.{ℤ, natAbs};
-ghost use Rattle.whole.specs.Lists.{all};
+ghost use Rattle.whole.specs.Lists.{every};
 ghost use Rattle.scheme.specs.Arithmetic.{isResidue};
 ghost use Rattle.modular.specs.Loans.{Modulus};
 use crate::size::bits;
@@ -16,7 +16,7 @@ const TOP: u64 = 9223372036854775808;
 // runs several entries at a time; x - h is made of x + h, which spares it a copy of x.
 fn all_below(xs: &[i64], h: u64) -> bool
     requires { ⌜ (0 < h) × (h ≤ 4611686018427387904) ⌝ }
-    ensures { λ r. ⌜ r ≡ all (isResidue (2 * h)) (now (xs .entry)) ⌝ }
+    ensures { λ r. ⌜ r ≡ every (isResidue (2 * h)) (now (xs .entry)) ⌝ }
 {
     let mut some = 0;
     let mut each = u64::MAX;
@@ -33,7 +33,7 @@ fn all_below(xs: &[i64], h: u64) -> bool
 // Whether every entry is in -q/2 to q/2-1.
 pub fn all_residues(xs: &[i64], q: u32) -> bool
     requires { ⌜ Modulus q ⌝ }
-    ensures { λ r. ⌜ r ≡ all (isResidue q) (now (xs .entry)) ⌝ }
+    ensures { λ r. ⌜ r ≡ every (isResidue q) (now (xs .entry)) ⌝ }
 {
     all_below(xs, (q as u64) / 2)
 }
@@ -41,7 +41,7 @@ pub fn all_residues(xs: &[i64], q: u32) -> bool
 // Whether every entry is in -Q/2 to Q/2-1, with Q = q².
 pub fn all_big_residues(xs: &[i64], q: u32) -> bool
     requires { ⌜ Modulus q ⌝ }
-    ensures { λ r. ⌜ r ≡ all (isResidue (q * q)) (now (xs .entry)) ⌝ }
+    ensures { λ r. ⌜ r ≡ every (isResidue (q * q)) (now (xs .entry)) ⌝ }
 {
     let wide = q as u64;
     all_below(xs, wide * wide / 2)
@@ -49,7 +49,7 @@ pub fn all_big_residues(xs: &[i64], q: u32) -> bool
 
 // Whether every error is at most limit in size.
 pub fn all_within(errors: &[i64], limit: u32) -> bool
-    ensures { λ r. ⌜ r ≡ all (λ e. leb (natAbs e) limit) (now (errors .entry)) ⌝ }
+    ensures { λ r. ⌜ r ≡ every (λ e. leb (natAbs e) limit) (now (errors .entry)) ⌝ }
 {
     let room = TOP - 1 - (limit as u64);
     let mut beyond: u64 = 0;

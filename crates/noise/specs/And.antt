@@ -12,7 +12,7 @@ use Rattle.whole.specs.Laws.{*ℤ-assoc}
 use Rattle.whole.specs.Ring.{by-ring, quote}
 use Rattle.whole.specs.Size.{size-add}
 use Rattle.whole.specs.Centred.{centred}
-use Rattle.whole.specs.Lists.{grid, getD-grid-place, all}
+use Rattle.whole.specs.Lists.{grid, getD-grid-place, every}
 use Rattle.whole.specs.Inner.{inner, inner-comm, sizes, column}
 use Rattle.scheme.specs.Arithmetic.{half, isResidue, noise, tensor, keyRows, switchEntry, switch, AND, AND-bound}
 use Rattle.scheme.specs.Wording.{length-tensor}
@@ -42,7 +42,7 @@ and-sum {q} {b1 = b1} {b2 = b2} {s = s} {c = c} {d = d} t r =
 -- where the noises of two ciphertexts for b1 and b2 are within B1 and B2, and these fit the budget, the noise of their AND for b1·b2 is
 -- within the bound of AND
 pub and-noise : (n q L F : ℕ) (s W c d : List ℤ) (b1 b2 B1 B2 : ℕ) → 0 < q → q ≡ 2 * (q / 2) → length s ≡ n → length c ≡ n → length d ≡ n
-    → all (isResidue q) c ≡ true → all (isResidue q) d ≡ true → sizes s ≤ L → BuiltFor n q F s W
+    → every (isResidue q) c ≡ true → every (isResidue q) d ≡ true → sizes s ≤ L → BuiltFor n q F s W
     → noise q s c b1 ≤ B1 → noise q s d b2 ≤ B2 → 4 * B1 < q → 4 * B2 < q
     → noise q s (AND n q W c d) (b1 * b2) ≤ AND-bound n q L F B1 B2
 unfolding AND switch AND-bound

@@ -13,7 +13,7 @@ use Rattle.whole.specs.Tests.{and-both}
 use Rattle.whole.specs.Laws.{one-*ℤ}
 use Rattle.whole.specs.Ring.{by-ring, quote}
 use Rattle.whole.specs.Centred.{centred, centred-le, centred-add}
-use Rattle.whole.specs.Lists.{tabulate, length-tabulate, getD-tabulate, tabulate-cong, tabulate-take, Each, each-getD, each-tabulate, all, all-append, all-getD, all-drop, each-all, cut}
+use Rattle.whole.specs.Lists.{tabulate, length-tabulate, getD-tabulate, tabulate-cong, tabulate-take, Each, each-getD, each-tabulate, every, every-append, every-getD, every-drop, each-every, cut}
 use Rattle.whole.specs.Inner.{inner, column}
 use Rattle.scheme.specs.Arithmetic.{isResidue, keyRows, maskColumn, rowZeroEntry, switchingKey}
 use Rattle.scheme.specs.Wording.{even-square, centred-residue, residue-centred, key-masks}
@@ -25,14 +25,14 @@ columnError n q s W j = centred (q * q) (inner s (column j (keyRows n W)) -ℤ p
 -- W is a switching key built for s with errors within F: n rows of n² residues of q², whose n² columns have errors of at most F under s
 pub record BuiltFor (n q F : ℕ) (s W : List ℤ) : Type 0 where
   pub long : length W ≡ n * (n * n)
-  pub residues : all (isResidue (q * q)) W ≡ true
+  pub residues : every (isResidue (q * q)) W ≡ true
   pub errors : (j : ℕ) → j < n * n → natAbs (columnError n q s W j) ≤ F
 
 -- the maker writes W: from s, n−1 rows of masks that are residues of q², and n² errors of at most F
 pub record MadeFor (n q F : ℕ) (s W : List ℤ) : Type 0 where
   pub masks : List ℤ
   pub masks-long : length masks ≡ (n - 1) * (n * n)
-  pub masks-residues : all (isResidue (q * q)) masks ≡ true
+  pub masks-residues : every (isResidue (q * q)) masks ≡ true
   pub f : List ℤ
   pub f-long : length f ≡ n * n
   pub f-small : Each (λ x. natAbs x ≤ F) f
@@ -112,14 +112,14 @@ module _ (n q : ℕ) (s : List ℤ) (some : 0 < n) (h : 0 < q) (even : q ≡ 2 *
       record {
         masks = drop N W;
         masks-long = omega (arith, length-drop N W, b .long, rows-below n N some);
-        masks-residues = all-drop (isResidue (q * q)) N W (b .residues);
+        masks-residues = every-drop (isResidue (q * q)) N W (b .residues);
         f = tabulate N err;
         f-long = length-tabulate N err;
         f-small = each-tabulate N err (b .errors);
         made = sym
             (ap (λ (r : List ℤ). r ++ drop N W)
             (tabulate-cong N (rowZeroEntry n q s (drop N W) (tabulate N err)) (λ j. getD W j (pos 0))
-            (λ j inside. row-zero W j inside (all-getD (isResidue (q * q)) W j (pos 0) (b .residues) (omega arith)))
+            (λ j inside. row-zero W j inside (every-getD (isResidue (q * q)) W j (pos 0) (b .residues) (omega arith)))
             ∙ tabulate-take N W (pos 0) enough)
             ∙ take-append-drop N W);
       }
@@ -134,8 +134,8 @@ module _ (n q : ℕ) (s : List ℤ) (some : 0 < n) (h : 0 < q) (even : q ≡ 2 *
       record {
         long = rw (m .made) (omega (arith, length-append (tabulate N row) masks, length-tabulate N row, m .masks-long, rows-below n N some));
         residues = rw (m .made)
-            (all-append (isResidue (q * q)) (tabulate N row) masks
-            ∙ and-both (each-all (each-tabulate N row (λ j inside. centred-residue (q * q) _ (mul-le-mul h h) (even-square q even)))) (m .masks-residues));
+            (every-append (isResidue (q * q)) (tabulate N row) masks
+            ∙ and-both (each-every (each-tabulate N row (λ j inside. centred-residue (q * q) _ (mul-le-mul h h) (even-square q even)))) (m .masks-residues));
         errors = λ j inside.
             rw (m .made, made-error masks (m .f) j)
             (le-trans (centred-le (q * q) (getD (m .f) j (pos 0)) (mul-le-mul h h)) (each-getD (m .f-small) j (pos 0) (rw (m .f-long) inside)));

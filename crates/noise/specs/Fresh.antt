@@ -9,7 +9,7 @@ use lib.IntN.{ℤ, pos, natAbs}
 use lib.ListN.{length}
 use borrow.Author.Tests.{eq-eqb}
 use Rattle.whole.specs.Tests.{or-left, or-right}
-use Rattle.whole.specs.Lists.{all, each-getD}
+use Rattle.whole.specs.Lists.{every, each-getD}
 use Rattle.refusal.specs.declared.Params.{Params}
 use Rattle.refusal.specs.First.{Clear, firstOf, first-clear, doneOr-done, rising}
 use Rattle.refusal.specs.Parameters.{InRange}
@@ -20,7 +20,7 @@ use Rattle.noise.specs.Gates.{decrypt-fresh, length-encrypt, encrypt-res
 
 -- a ciphertext whose length is right and whose entries are residues is decrypted, where the key fits
 pub decrypt-accepts : (p : Params) (s c : List ℤ) → badParams p ≡ false → differs (length s) (p .n) ≡ false → length c ≡ p .n → badKey (p .l) s ≡ false
-    → all (isResidue (p .q)) c ≡ true → firstOf (decryptRows p s c) ≡ 0
+    → every (isResidue (p .q)) c ≡ true → firstOf (decryptRows p s c) ≡ 0
 unfolding firstOf decryptRows differs outside
 decrypt-accepts p s c params key-long long key residues = simp (params, key-long, eq-eqb (length c) (p .n) long, key, residues)
 
@@ -37,7 +37,7 @@ fresh-decrypts p s b a e out accepted =
     let small : natAbs e ≤ p .e = each-getD (errors-within (p .e) (e ∷ []) (clear .1 .1 .1 .1 .1 .0)) 0 (pos 0) (omega arith) in
     let c : List ℤ = encrypt (p .q) s b a e in
     let long : length c ≡ p .n = omega (arith, length-encrypt (p .q) s b a e, range .n-low) in
-    let residues : all (isResidue (p .q)) c ≡ true = encrypt-residues (p .q) s b a e positive (range .q-even) (entries-inside (p .q) a (clear .1 .1 .1 .1 .0)) in
+    let residues : every (isResidue (p .q)) c ≡ true = encrypt-residues (p .q) s b a e positive (range .q-even) (entries-inside (p .q) a (clear .1 .1 .1 .1 .0)) in
     ap (decryptAnswer p s) (doneOr-done c out accepted)
     ∙ ap₂ decrypted
     (decrypt-accepts p s c (clear .0) (or-left _ _ lengths) long key residues)

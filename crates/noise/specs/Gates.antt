@@ -15,7 +15,7 @@ use Rattle.whole.specs.Ring.{by-ring, from-eq, quote}
 use Rattle.whole.specs.Split.{zarith, sub-is}
 use Rattle.whole.specs.Size.{size-add}
 use Rattle.whole.specs.Centred.{centred, Congruent, congruent-same, congruent-step, centred-congruent}
-use Rattle.whole.specs.Lists.{all}
+use Rattle.whole.specs.Lists.{every}
 use Rattle.whole.specs.Inner.{inner, inner-cons, inner-centred, inner-zip-add}
 use Rattle.scheme.specs.Arithmetic.{half, isResidue, encrypt, decrypt, noise, XOR, XOR-bound, NOT, NOT-bound}
 use Rattle.scheme.specs.Wording.{centred-residue, XOR-sum}
@@ -93,9 +93,9 @@ unfolding encrypt
 length-encrypt q s b a e = refl
 
 -- its entries are residues where those of the mask are
-pub encrypt-residues : (q : ℕ) (s : List ℤ) (b : ℕ) (a : List ℤ) (e : ℤ) → 0 < q → q ≡ 2 * (q / 2) → all (isResidue q) a ≡ true
-    → all (isResidue q) (encrypt q s b a e) ≡ true
-unfolding encrypt all
+pub encrypt-residues : (q : ℕ) (s : List ℤ) (b : ℕ) (a : List ℤ) (e : ℤ) → 0 < q → q ≡ 2 * (q / 2) → every (isResidue q) a ≡ true
+    → every (isResidue q) (encrypt q s b a e) ≡ true
+unfolding encrypt every
 encrypt-residues q s b a e h even r = and-both (centred-residue q (pos b *ℤ half q -ℤ inner (drop 1 s) a +ℤ e) h even) r
 
 -- ---- decryption

@@ -8,7 +8,7 @@ use Rattle.whole.specs.Ring.{by-ring, quote, from-eq}
 use Rattle.whole.specs.Size.{size-mul}
 use Rattle.whole.specs.Round.{round, round-near}
 use Rattle.whole.specs.Centred.{Centred, centred, centred-is}
-use Rattle.whole.specs.Lists.{all, all-each, Each, each-map, each-always}
+use Rattle.whole.specs.Lists.{every, every-each, Each, each-map, each-always}
 use Rattle.whole.specs.Inner.{inner, sizes, inner-map-scale, inner-map-sub, inner-size}
 use Rattle.scheme.specs.Arithmetic.{isResidue}
 use Rattle.scheme.specs.Wording.{residue-size}
@@ -72,5 +72,5 @@ rounded q h s zs =
 -- ---- sizes
 
 -- every entry of a ciphertext is at most q/2 in size
-pub residues-size : (q : ℕ) (c : List ℤ) → all (isResidue q) c ≡ true → Each (λ x. natAbs x ≤ q / 2) c
-residues-size q c = all-each (isResidue q) c (residue-size q)
+pub residues-size : (q : ℕ) (c : List ℤ) → every (isResidue q) c ≡ true → Each (λ x. natAbs x ≤ q / 2) c
+residues-size q c = every-each (isResidue q) c (residue-size q)

@@ -10,7 +10,7 @@ use lib.ListN.{length, take}
 use lib.Seq.{length-take-le}
 use borrow.Author.Tests.{not-false}
 use Rattle.whole.specs.Tests.{or-left, or-right}
-use Rattle.whole.specs.Lists.{nil, cons, all}
+use Rattle.whole.specs.Lists.{nil, cons, every}
 use Rattle.refusal.specs.declared.Params.{Params}
 use Rattle.refusal.specs.First.{firstOf, firstTrue, rising-row, rising-none, Clear, first-clear, first-each, someTrue, none-first, doneOr-done, doneOr-refused}
 use Rattle.refusal.specs.Parameters.{refused, InRange}
@@ -30,7 +30,7 @@ pub record PlanReady (p : Params) (inputs : ℕ) (ks ls rs Bs : List ℕ) : Type
   pub lefts-long : length ls ≡ length ks
   pub rights-long : length rs ≡ length ks
   pub room : length Bs ≡ inputs + length ks
-  pub fit : all (fits (p .q)) (take inputs Bs) ≡ true
+  pub fit : every (fits (p .q)) (take inputs Bs) ≡ true
 
 module _ (p : Params) (inputs : ℕ) (ks ls rs Bs : List ℕ) where
   -- the numbers of the rows in front are below those for the gates
@@ -50,7 +50,7 @@ module _ (p : Params) (inputs : ℕ) (ks ls rs Bs : List ℕ) where
         lefts-long = length-is (length ls) (length ks) (search (or-left, or-right, t .1 .1 .0) depth 8);
         rights-long = length-is (length rs) (length ks) (search (or-left, or-right, t .1 .1 .0) depth 8);
         room = length-is (length Bs) (inputs + length ks) (search (or-left, or-right, t .1 .1 .0) depth 8);
-        fit = not-false (all (fits (p .q)) (take inputs Bs)) (t .1 .1 .1 .0);
+        fit = not-false (every (fits (p .q)) (take inputs Bs)) (t .1 .1 .1 .0);
       }
 
   -- ---- the ends

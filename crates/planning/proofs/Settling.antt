@@ -9,7 +9,7 @@ use native.Mathlib.Omega.{arith}
 use lib.ListN.{length, getD, take, set, length-set}
 use lib.Seq.{length-take-le, take-suc, take-suc-set, take-set-le, take-all, getD-take, getD-set-same}
 use Rattle.whole.specs.Tests.{and-both}
-use Rattle.whole.specs.Lists.{all, all-suc, all-getD}
+use Rattle.whole.specs.Lists.{every, every-suc, every-getD}
 use Rattle.refusal.specs.declared.Params.{Params}
 use Rattle.refusal.specs.First.{firstTrue, first-past, first-here, first-within}
 use Rattle.scheme.specs.Arithmetic.{fits, XOR-bound, AND-bound, NOT-bound}
@@ -26,7 +26,7 @@ pub record Settled (p : Params) (inputs : ℕ) (gates : List Gate) (found table 
   pub wire : own ≡ inputs + g
   pub kept : length table ≡ length found
   pub so-far : take own table ≡ take own (boundsOf p gates (take inputs found))
-  pub fit : all (fits (p .q)) (take own table) ≡ true
+  pub fit : every (fits (p .q)) (take own table) ≡ true
   pub passed : g ≤ firstTrue (overGates p gates (take inputs found))
 
 module _ (p : Params) (inputs : ℕ) (gates : List Gate) (found : List ℕ) (room : length found ≡ inputs + length gates) where
@@ -36,7 +36,7 @@ module _ (p : Params) (inputs : ℕ) (gates : List Gate) (found : List ℕ) (roo
   bounds-long : length (boundsOf p gates (take inputs found)) ≡ inputs + length gates
   bounds-long = length-boundsOf p gates (take inputs found) ∙ ap (λ (n : ℕ). n + length gates) inputs-long
 
-  pub settled-start : all (fits (p .q)) (take inputs found) ≡ true → Settled p inputs gates found found inputs 0
+  pub settled-start : every (fits (p .q)) (take inputs found) ≡ true → Settled p inputs gates found found inputs 0
   unfolding boundsOf
   settled-start h =
       record {
@@ -61,7 +61,7 @@ module _ (p : Params) (inputs : ℕ) (gates : List Gate) (found : List ℕ) (roo
     settled-fits i h =
         let here : getD (take own table) i 0 ≡ getD table i 0 = getD-take own table i 0 h in
         let long : length (take own table) ≡ own = length-take-le own table (omega (arith, s .within, s .wire, s .kept)) in
-        fits-below (p .q) (getD table i 0) (ap (fits (p .q)) (sym here) ∙ all-getD (fits (p .q)) (take own table) i 0 (s .fit) (omega arith))
+        fits-below (p .q) (getD table i 0) (ap (fits (p .q)) (sym here) ∙ every-getD (fits (p .q)) (take own table) i 0 (s .fit) (omega arith))
 
     -- the bound of the wire that gate g makes, from the table
     wire-bound : (d : Gate) → g < length gates → getD (boundsOf p gates (take inputs found)) own 0 ≡ gateBound p (getD gates g d) (take own table)
@@ -99,7 +99,7 @@ module _ (p : Params) (inputs : ℕ) (gates : List Gate) (found : List ℕ) (roo
           wire = omega (arith, s .wire);
           kept = rw length-set (s .kept);
           so-far = rw (add-one, more, s .so-far, e) (sym (take-suc _ own 0 inside-bounds));
-          fit = rw (add-one, all-suc (fits (p .q)) (set table own x) own 0, take-set-le own table own x (omega arith), getD-set-same) (and-both (s .fit) (below-fits (p .q) x f));
+          fit = rw (add-one, every-suc (fits (p .q)) (set table own x) own 0, take-set-le own table own x (omega arith), getD-set-same) (and-both (s .fit) (below-fits (p .q) x f));
           passed = omega (arith, first-past _ g (s .passed) (rw length-overGates h) (over-next h ∙ rw (← e) (below-over _ _ f)));
         }
 

@@ -3,7 +3,7 @@ ghost use mathlib.Core.Path.{_≡_};
 ghost use mathlib.Core.Bool.{true, false};
 ghost use Prim.Native.Nat.{_+_, _*_, _≤_, _<_};
 ghost use lib.ListN.{length, take};
-ghost use Rattle.whole.specs.Lists.{all};
+ghost use Rattle.whole.specs.Lists.{every};
 ghost use Rattle.refusal.specs.First.{firstTrue, someTrue, firstOf};
 ghost use Rattle.refusal.specs.Parameters.{InRange};
 ghost use Rattle.scheme.specs.Arithmetic.{fits, XOR-bound, AND-bound, NOT-bound};
@@ -40,7 +40,7 @@ fn settle(
     rights: &[u32],
     table: &mut [u32],
 ) -> usize
-    requires { ⌜ InRange p × (inputs ≤ 1024) × (length (now kinds) ≤ 4096) × (length (now lefts) ≡ length (now kinds)) × (length (now rights) ≡ length (now kinds)) × (length (now table) ≡ inputs + length (now kinds)) × (all (fits (p .q)) (take inputs (now table)) ≡ true) × (someTrue (wrongGates inputs (records (now kinds) (now lefts) (now rights))) ≡ false) ⌝ }
+    requires { ⌜ InRange p × (inputs ≤ 1024) × (length (now kinds) ≤ 4096) × (length (now lefts) ≡ length (now kinds)) × (length (now rights) ≡ length (now kinds)) × (length (now table) ≡ inputs + length (now kinds)) × (every (fits (p .q)) (take inputs (now table)) ≡ true) × (someTrue (wrongGates inputs (records (now kinds) (now lefts) (now rights))) ≡ false) ⌝ }
     ensures { λ r. ⌜ r ≡ firstTrue (overGates p (records (now (kinds .entry)) (now (lefts .entry)) (now (rights .entry))) (take inputs (now (table .entry)))) ⌝ }
     ensures { λ r. ⌜ (length (now (kinds .entry)) ≤ r → now (table .exit) ≡ boundsOf p (records (now (kinds .entry)) (now (lefts .entry)) (now (rights .entry))) (take inputs (now (table .entry)))) ⌝ }
 {

@@ -8,7 +8,7 @@ use lib.Dec.{leb, ltb, eqb}
 use lib.ListN.{length, getD, List·getD-map}
 use borrow.Author.Tests.{ltb-true, leb-true, eqb-true, lt-ltb, le-ltb, le-leb, eq-eqb}
 use Rattle.whole.specs.Tests.{and-left, and-right, and-both}
-use Rattle.whole.specs.Lists.{all, all-getD}
+use Rattle.whole.specs.Lists.{every, every-getD}
 use Rattle.refusal.specs.declared.Refusal.{Refusal}
 use Rattle.refusal.specs.declared.Params.{Params}
 use Rattle.refusal.specs.declared.Made.{Made}
@@ -58,13 +58,13 @@ unfoldable pub sheet : ℕ → Params
 sheet k = getD sheets k noParams
 
 -- they meet the ranges: one computed test, and a law that carries it to each sheet
-pub sheets-in-range : all inRange sheets ≡ true
-unfolding all inRange sheets sheetTable
+pub sheets-in-range : every inRange sheets ≡ true
+unfolding every inRange sheets sheetTable
 sheets-in-range = refl
 
 pub sheet-in-range : (k : ℕ) → k < length sheets → inRange (sheet k) ≡ true
 unfolding sheet
-sheet-in-range k h = all-getD inRange sheets k noParams sheets-in-range h
+sheet-in-range k h = every-getD inRange sheets k noParams sheets-in-range h
 
 -- ---- the maker, and the sheet of a number
 

@@ -7,7 +7,7 @@ use native.Mathlib.Omega.{arith}
 use lib.IntN.{ℤ, pos, natAbs}
 use lib.ListN.{length}
 use Rattle.whole.specs.Tests.{or-left, or-right}
-use Rattle.whole.specs.Lists.{all, each-getD}
+use Rattle.whole.specs.Lists.{every, each-getD}
 use Rattle.whole.specs.Inner.{sizes}
 use Rattle.refusal.specs.declared.Params.{Params}
 use Rattle.refusal.specs.First.{firstOf, rising, Clear, first-clear}
@@ -24,7 +24,7 @@ pub record EncryptReady (p : Params) (s : List ℤ) (b : ℕ) (a : List ℤ) (e 
   pub mask-length : length a + 1 ≡ result
   pub key-small : sizes s ≤ 4096
   pub bit-small : b ≤ 1
-  pub residues : all (isResidue (p .q)) a ≡ true
+  pub residues : every (isResidue (p .q)) a ≡ true
   pub error-small : natAbs e ≤ 1048576
 
 pub encrypt-ready : (p : Params) (s : List ℤ) (b : ℕ) (a : List ℤ) (e : ℤ) (result : ℕ) → firstOf (encryptRows p s b a e result) ≡ 0
@@ -51,7 +51,7 @@ pub record DecryptReady (p : Params) (s c : List ℤ) : Type 0 where
   pub modulus : Modulus (p .q)
   pub lengths : length s ≡ length c
   pub small : sizes s ≤ 4096
-  pub residues : all (isResidue (p .q)) c ≡ true
+  pub residues : every (isResidue (p .q)) c ≡ true
 
 pub decrypt-ready : (p : Params) (s c : List ℤ) → firstOf (decryptRows p s c) ≡ 0 → DecryptReady p s c
 unfolding decryptRows rising

@@ -5,7 +5,7 @@ ghost use mathlib.Core.Bool.{true};
 ghost use Prim.Native.Nat.{_+_, _*_, _≤_};
 ghost use lib.IntN.{natAbs};
 ghost use lib.ListN.{length};
-ghost use Rattle.whole.specs.Lists.{all};
+ghost use Rattle.whole.specs.Lists.{every};
 ghost use Rattle.whole.specs.Inner.{sizes};
 ghost use Rattle.refusal.specs.First.{firstOf};
 ghost use Rattle.scheme.specs.Arithmetic.{isResidue, encrypt, decrypt};
@@ -42,7 +42,7 @@ fn encrypt_number(p: Params, s: &[i32], bit: u32, mask: &[i64], error: i64, resu
 
 // Entry 0 of the encryption, and then the mask.
 fn encrypt_into(q: u32, s: &[i32], bit: u32, mask: &[i64], error: i64, out: &mut [i64])
-    requires { ⌜ Modulus q × (length (now s) ≡ length (now out)) × (length (now mask) + 1 ≡ length (now out)) × (sizes (now s) ≤ 4096) × (bit ≤ 1) × (all (isResidue q) (now mask) ≡ true) × (natAbs error ≤ 1048576) ⌝ }
+    requires { ⌜ Modulus q × (length (now s) ≡ length (now out)) × (length (now mask) + 1 ≡ length (now out)) × (sizes (now s) ≤ 4096) × (bit ≤ 1) × (every (isResidue q) (now mask) ≡ true) × (natAbs error ≤ 1048576) ⌝ }
     ensures { λ r. ⌜ now (out .exit) ≡ encrypt q (now (s .entry)) bit (now (mask .entry)) error ⌝ }
 {
     let half = (q as i64) / 2;
@@ -89,7 +89,7 @@ fn decrypt_number(p: Params, s: &[i32], c: &[i64]) -> u32
 
 // 1 if the residue of <s,c> is more than q/4 in size, else 0.
 fn decrypt_bit(q: u32, s: &[i32], c: &[i64]) -> u32
-    requires { ⌜ Modulus q × (length (now s) ≡ length (now c)) × (sizes (now s) ≤ 4096) × (all (isResidue q) (now c) ≡ true) ⌝ }
+    requires { ⌜ Modulus q × (length (now s) ≡ length (now c)) × (sizes (now s) ≤ 4096) × (every (isResidue q) (now c) ≡ true) ⌝ }
     ensures { λ r. ⌜ r ≡ decrypt q (now (s .entry)) (now (c .entry)) ⌝ }
 {
     let d = Residue::of(inner_product(s, c), q).value();

@@ -7,7 +7,7 @@ use Prim.Native.Nat.{ℕ, _*_, _-_}
 use lib.Dec.{leb, eqb}
 use lib.IntN.{ℤ, pos, natAbs}
 use lib.ListN.{length, replicate}
-use Rattle.whole.specs.Lists.{all, cut}
+use Rattle.whole.specs.Lists.{every, cut}
 use Rattle.refusal.specs.declared.Refusal.{Refusal}
 use Rattle.refusal.specs.declared.Params.{Params}
 use Rattle.refusal.specs.First.{Row, row, firstOf, doneOr}
@@ -24,7 +24,7 @@ badParams p = not (inRange p)
 
 -- 3: a length differs from the one required
 unfoldable pub differs : ℕ → ℕ → Bool
-differs length required = not (eqb length required)
+differs had required = not (eqb had required)
 
 -- 4: s0 is not 1, or the key's sum exceeds L
 unfoldable pub badKey : ℕ → List ℤ → Bool
@@ -36,11 +36,11 @@ badBit b = not (leb b 1)
 
 -- 6: an entry is outside −m/2 to m/2−1
 unfoldable pub outside : ℕ → List ℤ → Bool
-outside m xs = not (all (isResidue m) xs)
+outside m xs = not (every (isResidue m) xs)
 
 -- 7: an error exceeds its limit
 unfoldable pub exceeds : ℕ → List ℤ → Bool
-exceeds limit es = not (all (λ e. leb (natAbs e) limit) es)
+exceeds limit es = not (every (λ e. leb (natAbs e) limit) es)
 
 -- 8 and 10: four times a bound is at or above q
 unfoldable pub overBudget : ℕ → ℕ → Bool

@@ -6,7 +6,7 @@ use lib.IntN.{ℤ, pos, negℤ}
 use lib.ListN.{replicate}
 use Rattle.whole.specs.Round.{round}
 use Rattle.whole.specs.Centred.{centred, rest}
-use Rattle.whole.specs.Lists.{all, tabulate, grid, cut}
+use Rattle.whole.specs.Lists.{every, tabulate, grid, cut}
 use Rattle.whole.specs.Inner.{inner, column}
 use Rattle.refusal.specs.First.{firstOf}
 use Rattle.refusal.specs.Parameters.{sheet, sheets, sheetTable, inRange}
@@ -89,5 +89,5 @@ figures =
     ∷ []
 
 pub figures-hold : map (λ f. f .computed) figures ≡ map (λ f. f .stated) figures
-unfolding figures encrypt decrypt noise XOR NOT tensor tensorEntry switchingKey rowZeroEntry maskColumn keyRows switch switchEntry AND-bound fits isResidue firstOf centred rest round zipWith flatMap grid tabulate cut column inner andRows badParams differs outside overBudget inRange sheet sheets sheetTable all
+unfolding figures encrypt decrypt noise XOR NOT tensor tensorEntry switchingKey rowZeroEntry maskColumn keyRows switch switchEntry AND-bound fits isResidue firstOf centred rest round zipWith flatMap grid tabulate cut column inner andRows badParams differs outside overBudget inRange sheet sheets sheetTable every
 figures-hold = refl

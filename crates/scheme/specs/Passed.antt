@@ -8,7 +8,7 @@ use lib.IntN.{ℤ, pos, natAbs}
 use lib.ListN.{getD}
 use borrow.Author.Tests.{ltb-true, lt-ltb, le-ltb, leb-true, eqb-true, eq-eqb, not-false, ltb-false, not-true}
 use Rattle.whole.specs.Tests.{and-left, and-right, eqZ, eqZ-true}
-use Rattle.whole.specs.Lists.{all, Each, all-each}
+use Rattle.whole.specs.Lists.{every, Each, every-each}
 use Rattle.whole.specs.Inner.{sizes}
 use Rattle.refusal.specs.declared.Params.{Params}
 use Rattle.refusal.specs.Parameters.{inRange, InRange, in-range}
@@ -43,13 +43,13 @@ pub bit-within : (b : ℕ) → badBit b ≡ false → b ≤ 1
 unfolding badBit
 bit-within b e = leb-true b 1 (not-false (leb b 1) e)
 
-pub entries-inside : (m : ℕ) (xs : List ℤ) → outside m xs ≡ false → all (isResidue m) xs ≡ true
+pub entries-inside : (m : ℕ) (xs : List ℤ) → outside m xs ≡ false → every (isResidue m) xs ≡ true
 unfolding outside
-entries-inside m xs e = not-false (all (isResidue m) xs) e
+entries-inside m xs e = not-false (every (isResidue m) xs) e
 
 pub errors-within : (limit : ℕ) (es : List ℤ) → exceeds limit es ≡ false → Each (λ e. natAbs e ≤ limit) es
 unfolding exceeds
-errors-within limit es e = all-each (λ x. leb (natAbs x) limit) es (λ x t. leb-true (natAbs x) limit t) (not-false _ e)
+errors-within limit es e = every-each (λ x. leb (natAbs x) limit) es (λ x t. leb-true (natAbs x) limit t) (not-false _ e)
 
 pub bound-fits : (q B : ℕ) → overBudget q B ≡ false → 4 * B < q
 unfolding overBudget fits

@@ -10,7 +10,7 @@ use lib.ListN.{replicate}
 use Rattle.whole.specs.Tests.{eqZ}
 use Rattle.whole.specs.Round.{round}
 use Rattle.whole.specs.Centred.{centred, rest}
-use Rattle.whole.specs.Lists.{all, tabulate, grid, cut}
+use Rattle.whole.specs.Lists.{every, tabulate, grid, cut}
 use Rattle.whole.specs.Inner.{inner, sizes, column}
 use Rattle.refusal.specs.declared.Refusal.{Refusal}
 use Rattle.refusal.specs.declared.Params.{Params}
@@ -202,7 +202,7 @@ numbers =
     ∷ []
 
 pub numbers-hold : map (λ k. k .computed) numbers ≡ map (λ k. k .stated) numbers
-unfolding numbers keyCheckAnswer keyCheckRows makeKeyAnswer makeKeyRows benchCheckAnswer benchRows encryptAnswer encryptRows decryptAnswer decryptRows decrypt xorAnswer xorRows XOR-bound notAnswer notRows NOT-bound andAnswer andRows AND-bound firstOf doneOr badParams inRange sheet sheets sheetTable differs badKey isKey eqZ sizes badBit outside all isResidue exceeds overBudget fits centred rest inner
+unfolding numbers keyCheckAnswer keyCheckRows makeKeyAnswer makeKeyRows benchCheckAnswer benchRows encryptAnswer encryptRows decryptAnswer decryptRows decrypt xorAnswer xorRows XOR-bound notAnswer notRows NOT-bound andAnswer andRows AND-bound firstOf doneOr badParams inRange sheet sheets sheetTable differs badKey isKey eqZ sizes badBit outside every isResidue exceeds overBudget fits centred rest inner
 numbers-hold = refl
 
 -- ---- the buffers
@@ -239,5 +239,5 @@ buffers =
     ∷ []
 
 pub buffers-hold : map (λ k. k .computed) buffers ≡ map (λ k. k .stated) buffers
-unfolding buffers makeKeyResult makeKeyRows encryptResult encryptRows encrypt xorResult xorRows XOR XOR-bound zipWith notResult notRows NOT andResult andScratch andRows AND AND-bound switch switchEntry keyRows tensor tensorEntry grid benchKey benchRows switchingKey rowZeroEntry maskColumn tabulate cut column firstOf doneOr badParams inRange sheet sheets sheetTable differs badKey isKey eqZ sizes badBit outside all isResidue exceeds overBudget fits centred rest round inner flatMap
+unfolding buffers makeKeyResult makeKeyRows encryptResult encryptRows encrypt xorResult xorRows XOR XOR-bound zipWith notResult notRows NOT andResult andScratch andRows AND AND-bound switch switchEntry keyRows tensor tensorEntry grid benchKey benchRows switchingKey rowZeroEntry maskColumn tabulate cut column firstOf doneOr badParams inRange sheet sheets sheetTable differs badKey isKey eqZ sizes badBit outside every isResidue exceeds overBudget fits centred rest round inner flatMap
 buffers-hold = refl

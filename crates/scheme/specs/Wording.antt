@@ -15,7 +15,7 @@ use Rattle.whole.specs.Tests.{and-left, and-right, and-both, leZ-true, ltZ-true
 use Rattle.whole.specs.Split.{zarith, mul-is, up-neg, dn-neg, size-is, apart}
 use Rattle.whole.specs.Centred.{Centred, centred, centred-is, centred-id}
 use Rattle.whole.specs.Round.{round}
-use Rattle.whole.specs.Lists.{all, all-map, each-all, each-map, each-always, length-zipWith, map-zipWith, grid, map-grid, length-grid, getD-grid, getD-map, cut, length-cut, getD-cut-entry, tabulate, length-tabulate, getD-tabulate}
+use Rattle.whole.specs.Lists.{every, every-map, each-every, each-map, each-always, length-zipWith, map-zipWith, grid, map-grid, length-grid, getD-grid, getD-map, cut, length-cut, getD-cut-entry, tabulate, length-tabulate, getD-tabulate}
 use Rattle.whole.specs.Inner.{inner, column}
 use Rattle.scheme.specs.Arithmetic.{half, isResidue, XOR-bound, NOT-bound, tensorEntry, tensor, keyRows, maskColumn, rowZeroEntry, switchingKey, XOR, NOT, switchEntry, switch, AND}
 
@@ -89,11 +89,11 @@ pub length-tensor : (q : ℕ) (c d : List ℤ) → length (tensor q c d) ≡ len
 unfolding tensor
 length-tensor q c d = length-grid (tensorEntry q) c d
 
-pub tensor-residues : (q : ℕ) (c d : List ℤ) → 0 < q → q ≡ 2 * (q / 2) → all (isResidue q) (tensor q c d) ≡ true
+pub tensor-residues : (q : ℕ) (c d : List ℤ) → 0 < q → q ≡ 2 * (q / 2) → every (isResidue q) (tensor q c d) ≡ true
 unfolding tensor tensorEntry
 tensor-residues q c d h even =
     rw (← map-grid (centred q) (λ x y. round (pos 2 *ℤ x *ℤ y) q) c d)
-    (all-map (isResidue q) (centred q) (grid (λ x y. round (pos 2 *ℤ x *ℤ y) q) c d) (λ x. centred-residue q x h even))
+    (every-map (isResidue q) (centred q) (grid (λ x y. round (pos 2 *ℤ x *ℤ y) q) c d) (λ x. centred-residue q x h even))
 
 -- row i column j of a switching key lies at i·n²+j
 pub key-entry : (n : ℕ) (W : List ℤ) (i j : ℕ) (z : ℤ) → i < n → j < n * n → getD (getD (keyRows n W) i []) j z ≡ getD W (i * (n * n) + j) z
@@ -137,8 +137,8 @@ unfolding XOR
 length-XOR q c d same = length-zipWith (λ x y. centred q (x +ℤ y)) c d same
 
 -- its entries are residues, whatever those of the two are
-pub xor-residues : (q : ℕ) (c d : List ℤ) → 0 < q → q ≡ 2 * (q / 2) → all (isResidue q) (XOR q c d) ≡ true
-xor-residues q c d h even = rw XOR-sum at (all-map (isResidue q) (centred q) (zipWith _+ℤ_ c d) (λ x. centred-residue q x h even))
+pub xor-residues : (q : ℕ) (c d : List ℤ) → 0 < q → q ≡ 2 * (q / 2) → every (isResidue q) (XOR q c d) ≡ true
+xor-residues q c d h even = rw XOR-sum at (every-map (isResidue q) (centred q) (zipWith _+ℤ_ c d) (λ x. centred-residue q x h even))
 
 -- NOT is as long as the ciphertext
 pub length-NOT : (q : ℕ) (c : List ℤ) → length (NOT q c) ≡ length c
@@ -147,10 +147,10 @@ length-NOT q [] = refl
 length-NOT q (x ∷ c) = refl
 
 -- its entries are residues where those of the ciphertext are
-pub not-residues : (q : ℕ) (c : List ℤ) → 0 < q → q ≡ 2 * (q / 2) → all (isResidue q) c ≡ true → all (isResidue q) (NOT q c) ≡ true
-unfolding NOT all
+pub not-residues : (q : ℕ) (c : List ℤ) → 0 < q → q ≡ 2 * (q / 2) → every (isResidue q) c ≡ true → every (isResidue q) (NOT q c) ≡ true
+unfolding NOT every
 not-residues q [] h even r = r
-not-residues q (x ∷ c) h even r = and-both (centred-residue q (x +ℤ half q) h even) (and-right (isResidue q x) (all (isResidue q) c) r)
+not-residues q (x ∷ c) h even r = and-both (centred-residue q (x +ℤ half q) h even) (and-right (isResidue q x) (every (isResidue q) c) r)
 
 -- AND has n entries
 pub length-AND : (n q : ℕ) (W c d : List ℤ) → length (AND n q W c d) ≡ n
@@ -158,7 +158,7 @@ unfolding AND switch keyRows
 length-AND n q W c d = length-map (keyRows n W) (switchEntry q (tensor q c d)) ∙ length-cut (n * n) n W
 
 -- and each is a residue
-pub and-residues : (n q : ℕ) (W c d : List ℤ) → 0 < q → q ≡ 2 * (q / 2) → all (isResidue q) (AND n q W c d) ≡ true
+pub and-residues : (n q : ℕ) (W c d : List ℤ) → 0 < q → q ≡ 2 * (q / 2) → every (isResidue q) (AND n q W c d) ≡ true
 unfolding AND switch switchEntry
 and-residues n q W c d h even =
-    each-all (each-map (switchEntry q (tensor q c d)) (each-always (λ row. centred-residue q (round (inner (tensor q c d) row) q) h even) (keyRows n W)))
+    each-every (each-map (switchEntry q (tensor q c d)) (each-always (λ row. centred-residue q (round (inner (tensor q c d) row) q) h even) (keyRows n W)))

@@ -15,5 +15,5 @@ abbrev pub Placed : ℕ → List ℕ → List ℕ → Type 0
 Placed at found text = (at ≤ length text) × (length text ≡ length found)
 
 -- n counts numbers at the front of xs. The second part follows from the first. Both are stated so that the proof that Rattle makes of `&xs[0..n]` finds them
-abbrev pub Counts : {A : Type 0} → ℕ → List A → Type 0
-Counts n xs = (n ≤ length xs) × (n ≡ length (take n xs))
+abbrev pub CountIn : {A : Type 0} → ℕ → List A → Type 0
+CountIn n xs = (n ≤ length xs) × (n ≡ length (take n xs))

@@ -7,7 +7,7 @@ use native.Mathlib.Numerals.{add-one}
 use native.Mathlib.Omega.{arith}
 use lib.ListN.{length, take, drop, set, getD, length-set, length-append, length-drop}
 use lib.Seq.{take-at, take-all, length-take-le, paste-suc}
-use Rattle.stream.specs.Bounds.{Counts}
+use Rattle.stream.specs.Bounds.{CountIn}
 
 module _ {A : Type 0} where
   -- xs, and then what was found after as many entries
@@ -20,7 +20,7 @@ module _ {A : Type 0} where
   length-front xs found h = simp (length-append, length-drop) (omega arith)
 
   -- and the entries of xs are counted by its length
-  pub front-counts : (xs found : List A) → Counts (length xs) (front xs found)
+  pub front-counts : (xs found : List A) → CountIn (length xs) (front xs found)
   unfolding front
   front-counts xs found = (omega (arith, length-append xs (drop (length xs) found)), rw take-at)
 

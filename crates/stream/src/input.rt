@@ -6,7 +6,7 @@ ghost use mathlib.Core.Bool.{false, true};
 ghost use mathlib.Core.Path.{_≡_};
 ghost use lib.IntN.{negℤ, pos};
 ghost use lib.ListN.{length};
-ghost use Rattle.stream.specs.Bounds.{Within, Counts};
+ghost use Rattle.stream.specs.Bounds.{Within, CountIn};
 
 // The most bytes of white space that are passed over before a number. A number has fewer digits
 // than this. A proved loop has to end, and nothing says that the input does.
@@ -84,7 +84,7 @@ pub fn number(block: &mut [u8], c: Cursor) -> Token
 // `len` 0, where the count is negative or above out's length, or where a number is missing or bad;
 // the front of `out` may then be changed.
 pub fn list(block: &mut [u8], c: Cursor, out: &mut [i64]) -> Taken
-    ensures { λ r. ⌜ Counts (r .len) (now (out .exit)) ⌝ }
+    ensures { λ r. ⌜ CountIn (r .len) (now (out .exit)) ⌝ }
     ensures { λ _. ⌜ length (now (out .exit)) ≡ length (now (out .entry)) ⌝ }
     ensures { λ r. ⌜ Within (r .cursor .at) (r .cursor .end) (now (block .exit)) ⌝ }
     ensures { λ _. ⌜ length (now (block .exit)) ≡ length (now (block .entry)) ⌝ }
@@ -110,7 +110,7 @@ pub fn list(block: &mut [u8], c: Cursor, out: &mut [i64]) -> Taken
 fn numbers(block: &mut [u8], c: Cursor, out: &mut [i64], n: usize) -> Taken
     requires { ⌜ n ≤ length (now out) ⌝ }
     requires { ⌜ Within (c .at) (c .end) (now block) ⌝ }
-    ensures { λ r. ⌜ Counts (r .len) (now (out .exit)) ⌝ }
+    ensures { λ r. ⌜ CountIn (r .len) (now (out .exit)) ⌝ }
     ensures { λ r. ⌜ Within (r .cursor .at) (r .cursor .end) (now (block .exit)) ⌝ }
     ensures { λ r. ⌜ (r .whole ≡ false → r .len ≡ 0) ⌝ }
 {
@@ -222,7 +222,7 @@ fn digits(block: &mut [u8], c: Cursor) -> Unsigned
     ended(s.at, s.end, size, false)
 }
 
-// What `digits` answers.
+// What `decimal` answers.
 fn ended(at: usize, end: usize, size: u64, good: bool) -> Unsigned
     ensures { λ r. ⌜ (r .cursor .at ≡ at) × (r .cursor .end ≡ end) ⌝ }
 {

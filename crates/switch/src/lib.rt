@@ -5,7 +5,7 @@ ghost use Prim.Native.Nat.{_*_, _≤_};
 ghost use lib.IntN.{pos, _+ℤ_, _*ℤ_, natAbs};
 ghost use lib.ListN.{length};
 ghost use Rattle.whole.specs.Inner.{inner};
-ghost use Rattle.whole.specs.Lists.{all};
+ghost use Rattle.whole.specs.Lists.{every};
 ghost use Rattle.scheme.specs.Arithmetic.{isResidue, switchEntry, switch};
 ghost use Rattle.modular.specs.Loans.{Modulus, UpTo};
 use modular::residue::Residue;
@@ -70,7 +70,7 @@ fn row_sum(t: &[i64], row: &[i64]) -> Wide
 
 // One switched entry: [round(S/q)]q for the exact S. Only S modulo Q matters, so that hi is reduced first.
 pub fn switch_entry(q: u32, t: &[i64], row: &[i64]) -> Residue
-    requires { ⌜ Modulus q × (length (now t) ≤ 1048576) × (length (now row) ≡ length (now t)) × (all (isResidue q) (now t) ≡ true) × (all (isResidue (q * q)) (now row) ≡ true) ⌝ }
+    requires { ⌜ Modulus q × (length (now t) ≤ 1048576) × (length (now row) ≡ length (now t)) × (every (isResidue q) (now t) ≡ true) × (every (isResidue (q * q)) (now row) ≡ true) ⌝ }
     ensures { λ r. ⌜ r .0 ≡ switchEntry q (now (t .entry)) (now (row .entry)) ⌝ }
 {
     let wide = q as i64;
@@ -81,7 +81,7 @@ pub fn switch_entry(q: u32, t: &[i64], row: &[i64]) -> Residue
 
 // All n entries of the switch of t, from the n rows of n² entries of the switching key.
 pub fn fill_switch(q: u32, t: &[i64], key: &[i64], out: &mut [i64])
-    requires { ⌜ Modulus q × (length (now out) ≤ 1024) × (length (now t) ≡ length (now out) * length (now out)) × (length (now key) ≡ length (now out) * length (now t)) × (all (isResidue q) (now t) ≡ true) × (all (isResidue (q * q)) (now key) ≡ true) ⌝ }
+    requires { ⌜ Modulus q × (length (now out) ≤ 1024) × (length (now t) ≡ length (now out) * length (now out)) × (length (now key) ≡ length (now out) * length (now t)) × (every (isResidue q) (now t) ≡ true) × (every (isResidue (q * q)) (now key) ≡ true) ⌝ }
     ensures { λ r. ⌜ now (out .exit) ≡ switch (length (now (out .entry))) q (now (key .entry)) (now (t .entry)) ⌝ }
 {
     let width = t.len();

@@ -10,7 +10,7 @@ ghost use lib.IntN.{pos, _+ℤ_, _-ℤ_, _*ℤ_, natAbs};
 ghost use lib.ListN.{length, getD, drop};
 ghost use Rattle.whole.specs.Centred.{centred};
 ghost use Rattle.whole.specs.Inner.{inner, sizes};
-ghost use Rattle.whole.specs.Lists.{all, tabulate};
+ghost use Rattle.whole.specs.Lists.{every, tabulate};
 ghost use Rattle.refusal.specs.First.{firstOf};
 ghost use Rattle.scheme.specs.Arithmetic.{isResidue, maskColumn, rowZeroEntry, switchingKey};
 ghost use Rattle.scheme.specs.Calls.{makeKeyRows, makeKeyAnswer, makeKeyResult};

@@ -5,7 +5,7 @@ ghost use mathlib.Core.List.{map};
 ghost use Prim.Native.Nat.{_*_, _≤_};
 ghost use lib.IntN.{pos};
 ghost use lib.ListN.{length};
-ghost use Rattle.whole.specs.Lists.{all};
+ghost use Rattle.whole.specs.Lists.{every};
 ghost use Rattle.scheme.specs.Arithmetic.{isResidue, tensorEntry, tensor};
 ghost use Rattle.modular.specs.Loans.{Modulus};
 ghost use Rattle.tensor.specs.Lines.{reciprocalOf};
@@ -14,7 +14,7 @@ use modular::residue::Residue;
 // The row of the tensor for one entry x on the left. The quotients 2·x·y/q lie on a line over y: its slope, with 42 binary places, is had by a
 // product and a shift, and the row takes no division. The base holds the half of rounding, and q more, which the slope's error does not reach.
 fn fill_row(q: u32, x: i64, reciprocal: i64, d: &[i64], out: &mut [i64])
-    requires { ⌜ Modulus q × (isResidue q x ≡ true) × (reciprocal ≡ pos (reciprocalOf q)) × (all (isResidue q) (now d) ≡ true) × (length (now out) ≡ length (now d)) ⌝ }
+    requires { ⌜ Modulus q × (isResidue q x ≡ true) × (reciprocal ≡ pos (reciprocalOf q)) × (every (isResidue q) (now d) ≡ true) × (length (now out) ≡ length (now d)) ⌝ }
     ensures { λ r. ⌜ now (out .exit) ≡ map (tensorEntry q x) (now (d .entry)) ⌝ }
 {
     let slope = (x * reciprocal) >> 20;
@@ -28,7 +28,7 @@ fn fill_row(q: u32, x: i64, reciprocal: i64, d: &[i64], out: &mut [i64])
 
 // All entries of the tensor of two ciphertexts: entry u·n+v is that of entry u on the left and entry v on the right. It has one division.
 pub fn fill_tensor(q: u32, c: &[i64], d: &[i64], out: &mut [i64])
-    requires { ⌜ Modulus q × (all (isResidue q) (now c) ≡ true) × (all (isResidue q) (now d) ≡ true) × (length (now out) ≡ length (now c) * length (now d)) × (length (now c) ≤ 1024) × (length (now d) ≤ 1024) ⌝ }
+    requires { ⌜ Modulus q × (every (isResidue q) (now c) ≡ true) × (every (isResidue q) (now d) ≡ true) × (length (now out) ≡ length (now c) * length (now d)) × (length (now c) ≤ 1024) × (length (now d) ≤ 1024) ⌝ }
     ensures { λ r. ⌜ now (out .exit) ≡ tensor q (now (c .entry)) (now (d .entry)) ⌝ }
 {
     let reciprocal = 4611686018427387904 / ((q / 2) as i64);

@@ -2,7 +2,7 @@
 ghost use mathlib.Core.List.{[], _∷_, _++_};
 ghost use Prim.Native.Nat.{_+_, _≤_};
 ghost use lib.ListN.{length};
-ghost use Rattle.circuitfile.specs.Text.{digits};
+ghost use Rattle.circuitfile.specs.Text.{decimal};
 ghost use Rattle.gatfile.specs.Writing.{Written};
 
 // Writes bytes.
@@ -22,8 +22,8 @@ pub fn put(bytes: &[u8], at: usize, out: &mut [u8]) -> usize
 
 // Writes the decimal digits of a number.
 pub fn put_number(x: u64, at: usize, out: &mut [u8]) -> usize
-    requires { ⌜ at + length (digits x) ≤ length (now out) ⌝ }
-    ensures { λ r. ⌜ Written (digits x) (now (out .entry)) (now (out .exit)) at r ⌝ }
+    requires { ⌜ at + length (decimal x) ≤ length (now out) ⌝ }
+    ensures { λ r. ⌜ Written (decimal x) (now (out .entry)) (now (out .exit)) at r ⌝ }
 {
     if x < 10 {
         out[at] = 48 + x as u8;
@@ -36,8 +36,8 @@ pub fn put_number(x: u64, at: usize, out: &mut [u8]) -> usize
 
 // Writes the digits of a number, and the byte that ends them.
 pub fn put_field(x: u64, end: u8, at: usize, out: &mut [u8]) -> usize
-    requires { ⌜ at + length (digits x) + 1 ≤ length (now out) ⌝ }
-    ensures { λ r. ⌜ Written (digits x ++ (end ∷ [])) (now (out .entry)) (now (out .exit)) at r ⌝ }
+    requires { ⌜ at + length (decimal x) + 1 ≤ length (now out) ⌝ }
+    ensures { λ r. ⌜ Written (decimal x ++ (end ∷ [])) (now (out .entry)) (now (out .exit)) at r ⌝ }
 {
     let to = put_number(x, at, out);
     out[to] = end;

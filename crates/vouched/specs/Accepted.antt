@@ -10,7 +10,7 @@ use lib.ListN.{length, getD, take}
 use lib.Seq.{length-take-le}
 use borrow.Author.Tests.{not-false}
 use Rattle.whole.specs.Tests.{or-left, or-right}
-use Rattle.whole.specs.Lists.{all, all-getD, each-getD, cut, length-cut, each-cut, flatten-cut-take, flatten-all}
+use Rattle.whole.specs.Lists.{every, every-getD, each-getD, cut, length-cut, each-cut, flatten-cut-take, flatten-every}
 use Rattle.refusal.specs.declared.Params.{Params}
 use Rattle.refusal.specs.First.{firstOf, first-clear, Clear, rising, someTrue, none-true}
 use Rattle.scheme.specs.Arithmetic.{isResidue, fits}
@@ -25,8 +25,8 @@ use Rattle.circuit.specs.Records.{Below, getD-wrongGates, getD-overGates, gate-
 pub record Accepted (p : Params) (inputs : ℕ) (gates : List Gate) (wires : List ℤ) (Bs : List ℕ) : Type 0 where
   pub wires-long : length wires ≡ (inputs + length gates) * p .n
   pub bounds-long : length Bs ≡ inputs + length gates
-  pub residues : all (isResidue (p .q)) (take (inputs * p .n) wires) ≡ true
-  pub inputs-fit : all (fits (p .q)) (take inputs Bs) ≡ true
+  pub residues : every (isResidue (p .q)) (take (inputs * p .n) wires) ≡ true
+  pub inputs-fit : every (fits (p .q)) (take inputs Bs) ≡ true
   pub none-wrong : someTrue (wrongGates inputs gates) ≡ false
   pub none-over : someTrue (overGates p gates (take inputs Bs)) ≡ false
 
@@ -53,7 +53,7 @@ module _ {p : Params} {inputs : ℕ} {gates : List Gate} {wires : List ℤ} {Bs 
 
   module _ (i : ℕ) (inside : i < inputs) where
     pub stated-fits : 4 * getD (take inputs Bs) i 0 < p .q
-    stated-fits = fits-below (p .q) _ (all-getD (fits (p .q)) (take inputs Bs) i 0 (a .inputs-fit) (omega (arith, stated-long)))
+    stated-fits = fits-below (p .q) _ (every-getD (fits (p .q)) (take inputs Bs) i 0 (a .inputs-fit) (omega (arith, stated-long)))
 
     -- each input has n entries, which are residues
     pub input-long : length (getD (cut (p .n) inputs wires) i []) ≡ p .n
@@ -62,11 +62,11 @@ module _ {p : Params} {inputs : ℕ} {gates : List Gate} {wires : List ℤ} {Bs 
         let enough : inputs * p .n ≤ length wires = omega (arith, a .wires-long, mul-le-mul-right (p .n) fewer) in
         each-getD (each-cut (p .n) inputs wires enough) i [] (omega (arith, length-cut (p .n) inputs wires))
 
-    pub input-residues : all (isResidue (p .q)) (getD (cut (p .n) inputs wires) i []) ≡ true
+    pub input-residues : every (isResidue (p .q)) (getD (cut (p .n) inputs wires) i []) ≡ true
     input-residues =
         let rows : List (List ℤ) = cut (p .n) inputs wires in
-        let joined : all (isResidue (p .q)) (flatten rows) ≡ true = ap (all (isResidue (p .q))) (flatten-cut-take (p .n) inputs wires) ∙ a .residues in
-        each-getD (flatten-all (isResidue (p .q)) rows joined) i [] (omega (arith, length-cut (p .n) inputs wires))
+        let joined : every (isResidue (p .q)) (flatten rows) ≡ true = ap (every (isResidue (p .q))) (flatten-cut-take (p .n) inputs wires) ∙ a .residues in
+        each-getD (flatten-every (isResidue (p .q)) rows joined) i [] (omega (arith, length-cut (p .n) inputs wires))
 
   module _ (i : ℕ) (z : Gate) (inside : i < length gates) where
     -- the operands of gate i lie below its own wire

@@ -14,7 +14,7 @@ use lib.ListN.{length, getD, take, drop}
 use lib.Seq.{length-take-le}
 use borrow.Author.Tests.{ltb-true}
 use Rattle.whole.specs.Tests.{clash, and-left, and-right, or-left, or-right}
-use Rattle.whole.specs.Lists.{all}
+use Rattle.whole.specs.Lists.{every}
 use Rattle.refusal.specs.declared.Refusal.{Refusal}
 use Rattle.refusal.specs.declared.Params.{Params}
 use Rattle.refusal.specs.First.{Row, row, Applies, Clear, firstOf, first-rest, firstTrue, someTrue, first-is-true, none-before-first, none-first, none-true, doneOr}
@@ -55,8 +55,8 @@ pub record Exact (p : Params) (inputs : ℕ) (gates : List Gate) (Bs : List ℕ)
 -- ---- rows
 
 -- where no number below k applies, no row in front does, whose numbers are below k
-pub clear-front : (k : ℕ) (front rest : List Row) → all (λ r. ltb (r .number) k) front ≡ true → NoneBelow k (front ++ rest) → Clear front
-unfolding all
+pub clear-front : (k : ℕ) (front rest : List Row) → every (λ r. ltb (r .number) k) front ≡ true → NoneBelow k (front ++ rest) → Clear front
+unfolding every
 clear-front k [] rest low none = tt
 clear-front k (r ∷ front) rest low none =
     (by-test (r .applies) refl, clear-front k front rest (and-right (ltb (r .number) k) _ low) (λ j h a. none j h (inr a)))
@@ -126,7 +126,7 @@ settled-exact {p} {inputs} {gates} {Bs} k = rw (k .number) (row-ten-exact p inpu
 
 plan-settled : (p : Params) (inputs : ℕ) (gates : List Gate) (Bs : List ℕ) → NoneBelow 10 (planRows p inputs gates Bs)
     → Settled p inputs gates Bs (firstOf (planRows p inputs gates Bs))
-unfolding planRows gateRows all
+unfolding planRows gateRows every
 plan-settled p inputs gates Bs none =
     let rows : List Row = planRows p inputs gates Bs in
     let clear : Clear (take 5 rows) = clear-front 10 (take 5 rows) (drop 5 rows) refl none in
@@ -143,7 +143,7 @@ plan-exact p inputs gates Bs none = settled-exact (plan-settled p inputs gates B
 module _ (p : Params) (inputs : ℕ) (gates : List Gate) (wires : List ℤ) (Bs : List ℕ) (W scratch : List ℤ)
     (none : NoneBelow 10 (evaluateRows p inputs gates wires Bs W (length scratch))) where
   evaluate-settled : Settled p inputs gates Bs (firstOf (evaluateRows p inputs gates wires Bs W (length scratch)))
-  unfolding evaluateRows gateRows all
+  unfolding evaluateRows gateRows every
   evaluate-settled =
       let rows : List Row = evaluateRows p inputs gates wires Bs W (length scratch) in
       let clear : Clear (take 6 rows) = clear-front 10 (take 6 rows) (drop 6 rows) refl none in

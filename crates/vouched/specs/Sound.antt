@@ -7,7 +7,7 @@ use native.Mathlib.Nat.{mul-le-mul}
 use native.Mathlib.Omega.{arith}
 use lib.IntN.{ℤ}
 use lib.ListN.{length, getD}
-use Rattle.whole.specs.Lists.{all}
+use Rattle.whole.specs.Lists.{every}
 use Rattle.refusal.specs.declared.Params.{Params}
 use Rattle.refusal.specs.First.{firstOf, first-clear, Clear, rising}
 use Rattle.refusal.specs.Parameters.{InRange}
@@ -47,7 +47,7 @@ by-kind R (suc (suc k)) x a n = n
 pub record Sound (p : Params) (s : List ℤ) (b B : ℕ) (c : List ℤ) : Type 0 where
   pub bit : b ≤ 1
   pub long : length c ≡ p .n
-  pub residues : all (isResidue (p .q)) c ≡ true
+  pub residues : every (isResidue (p .q)) c ≡ true
   pub quiet : noise (p .q) s c b ≤ B
   pub fits : 4 * B < p .q
 

@@ -12,7 +12,7 @@ use borrow.Author.Tests.{leb-true}
 use Rattle.whole.specs.Tests.{eqZ}
 use Rattle.whole.specs.Round.{round}
 use Rattle.whole.specs.Centred.{centred, rest}
-use Rattle.whole.specs.Lists.{all, all-each, tabulate, grid, cut}
+use Rattle.whole.specs.Lists.{every, every-each, tabulate, grid, cut}
 use Rattle.whole.specs.Inner.{inner, sizes, column}
 use Rattle.refusal.specs.declared.Params.{Params}
 use Rattle.refusal.specs.declared.Refusal.{Refusal}
@@ -59,7 +59,7 @@ bits = 1 ∷ 1 ∷ []
 -- ---- the premises
 
 W-made : MadeFor 2 64 1 s W
-unfolding all isResidue exceeds switchingKey rowZeroEntry maskColumn tabulate cut column centred rest inner
+unfolding every isResidue exceeds switchingKey rowZeroEntry maskColumn tabulate cut column centred rest inner
 W-made =
     record {
       masks = four (pos 100) (− 100) (pos 7) (pos 0);
@@ -78,20 +78,20 @@ quiet (suc zero) h = le-refl 1
 quiet (suc (suc i)) h = absurd (omega arith)
 
 pub premises : Premises p 2 wires Bs W s bits
-unfolding all keyCheckRows firstOf badParams inRange differs badKey isKey eqZ sizes
+unfolding every keyCheckRows firstOf badParams inRange differs badKey isKey eqZ sizes
 premises =
     record {
       key = refl;
       built = made→built 2 64 s (omega arith) (omega arith) refl refl 1 W W-made;
       bits-long = refl;
-      bits-small = all-each (λ b. leb b 1) bits (λ b. leb-true b 1) refl;
+      bits-small = every-each (λ b. leb b 1) bits (λ b. leb-true b 1) refl;
       quiet = quiet;
     }
 
 -- ---- evaluation accepts
 
 pub done : firstOf (evaluateRows p 2 gates wires Bs W (length scratch)) ≡ 0
-unfolding firstOf someTrue all badParams inRange badCounts differs outside isResidue fits overBudget byKind gateBound XOR-bound AND-bound NOT-bound wrongGate run wrongGates boundsOf overGates gateRows evaluateRows
+unfolding firstOf someTrue every badParams inRange badCounts differs outside isResidue fits overBudget byKind gateBound XOR-bound AND-bound NOT-bound wrongGate run wrongGates boundsOf overGates gateRows evaluateRows
 done = refl
 
 pub answered : evaluateAnswer p 2 gates wires Bs W (length scratch) .number ≡ 0
@@ -135,7 +135,7 @@ planned gs = planAnswer (sheet 0) 2 gs (1 ∷ 1 ∷ 7 ∷ 7 ∷ [])
 
 -- the last gate alone is over; of two that are the first is named; a wrong gate is named before one that is over
 pub plans-refused : planned (XOR01 ∷ AND01 ∷ []) ∷ planned (AND01 ∷ AND01 ∷ []) ∷ planned (AND01 ∷ gate 2 0 1 ∷ []) ∷ [] ≡ refused 10 1 ∷ refused 10 0 ∷ refused 9 1 ∷ []
-unfolding firstOf firstTrue someTrue all badParams inRange sheet sheets sheetTable badCounts differs fits overBudget byKind gateBound XOR-bound AND-bound wrongGate run wrongGates boundsOf overGates gateRows placeOf planRows planAnswer
+unfolding firstOf firstTrue someTrue every badParams inRange sheet sheets sheetTable badCounts differs fits overBudget byKind gateBound XOR-bound AND-bound wrongGate run wrongGates boundsOf overGates gateRows placeOf planRows planAnswer
 plans-refused = refl
 
 -- evaluation of the first of these writes nothing, also not the XOR, whose bound fits
@@ -143,5 +143,5 @@ abbrev found : List ℤ
 found = pos 6 ∷ pos 3 ∷ pos 6 ∷ pos 3 ∷ pos 9 ∷ pos 9 ∷ pos 9 ∷ pos 9 ∷ []
 
 pub nothing-written : evaluateWires (sheet 0) 2 (XOR01 ∷ AND01 ∷ []) found (1 ∷ 1 ∷ 7 ∷ 7 ∷ []) (replicate 8 (pos 0)) scratch ≡ found
-unfolding firstOf firstTrue someTrue all badParams inRange sheet sheets sheetTable badCounts differs outside isResidue fits overBudget byKind gateBound XOR-bound AND-bound wrongGate run wrongGates boundsOf overGates gateRows evaluateRows evaluateWires doneOr
+unfolding firstOf firstTrue someTrue every badParams inRange sheet sheets sheetTable badCounts differs outside isResidue fits overBudget byKind gateBound XOR-bound AND-bound wrongGate run wrongGates boundsOf overGates gateRows evaluateRows evaluateWires doneOr
 nothing-written = refl

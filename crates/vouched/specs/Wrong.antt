@@ -8,7 +8,7 @@ use native.Mathlib.Omega.{arith}
 use lib.IntN.{ℤ}
 use lib.ListN.{length, getD, take, drop}
 use Rattle.whole.specs.Tests.{clash}
-use Rattle.whole.specs.Lists.{all}
+use Rattle.whole.specs.Lists.{every}
 use Rattle.refusal.specs.declared.Refusal.{Refusal}
 use Rattle.refusal.specs.declared.Params.{Params}
 use Rattle.refusal.specs.First.{Row, firstOf, first-rest, firstTrue, someTrue, first-is-true, none-before-first, none-true}
@@ -72,14 +72,14 @@ module _ (p : Params) (inputs : ℕ) (gates : List Gate) (Bs : List ℕ) where
 
 pub plan-wrong-exact : (p : Params) (inputs : ℕ) (gates : List Gate) (Bs : List ℕ) → NoneBelow 9 (planRows p inputs gates Bs)
     → WrongExact inputs gates (planAnswer p inputs gates Bs)
-unfolding planRows planAnswer all
+unfolding planRows planAnswer every
 plan-wrong-exact p inputs gates Bs none =
     let rows : List Row = planRows p inputs gates Bs in
     gates-exact p inputs gates Bs (first-rest (take 4 rows) (drop 4 rows) (clear-front 9 (take 4 rows) (drop 4 rows) refl none))
 
 pub evaluate-wrong-exact : (p : Params) (inputs : ℕ) (gates : List Gate) (wires : List ℤ) (Bs : List ℕ) (W scratch : List ℤ)
     → NoneBelow 9 (evaluateRows p inputs gates wires Bs W (length scratch)) → WrongExact inputs gates (evaluateAnswer p inputs gates wires Bs W (length scratch))
-unfolding evaluateRows evaluateAnswer all
+unfolding evaluateRows evaluateAnswer every
 evaluate-wrong-exact p inputs gates wires Bs W scratch none =
     let rows : List Row = evaluateRows p inputs gates wires Bs W (length scratch) in
     gates-exact p inputs gates Bs (first-rest (take 5 rows) (drop 5 rows) (clear-front 9 (take 5 rows) (drop 5 rows) refl none))

@@ -88,8 +88,8 @@ inner-centred q (x ∷ s) [] h = congruent-same q (pos 0)
 inner-centred q (x ∷ s) (y ∷ c) h = congruent-step x (centred-congruent q y h) (inner-centred q s c h)
 
 -- all entries
-pub inner-all : (s c : List ℤ) (i : ℕ) → length s ≤ i → length c ≤ i → inner (take i s) (take i c) ≡ inner s c
-inner-all s c i h g = rw (take-all i s, take-all i c)
+pub inner-every : (s c : List ℤ) (i : ℕ) → length s ≤ i → length c ≤ i → inner (take i s) (take i c) ≡ inner s c
+inner-every s c i h g = rw (take-all i s, take-all i c)
 
 -- the entries up to e, of which the first i were taken already
 pub inner-part : (s c : List ℤ) (i e : ℕ) → i ≤ e → length s ≡ length c

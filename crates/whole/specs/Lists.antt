@@ -1,4 +1,4 @@
--- Lists of anything: a list given by its entries (`tabulate`), a statement of every entry (`Each`), a test of every entry (`all`),
+-- Lists of anything: a list given by its entries (`tabulate`), a statement of every entry (`Each`), a test of every entry (`every`),
 -- the same by a count of those that fail (`Counted`), a list filled entry after entry (`Filled`),
 -- two lists entry by entry (`zipWith`, the library's), all pairs of two lists (`grid`), and a list in rows (`cut`, `flatten`).
 -- An entry is read by `getD xs i d`; where i is below the length the default d does not matter, so the laws hold for any.
@@ -140,66 +140,66 @@ module _ {ℓ κ μ} {A : Type ℓ} {B : Type κ} where
 
 module _ {ℓ} {A : Type ℓ} where
   -- every entry passes the test p
-  unfoldable pub all : (A → Bool) → List A → Bool
-  all p [] = true
-  all p (x ∷ xs) = p x && all p xs
+  unfoldable pub every : (A → Bool) → List A → Bool
+  every p [] = true
+  every p (x ∷ xs) = p x && every p xs
 
   -- a list after another passes where both do
-  pub all-append : (p : A → Bool) (xs ys : List A) → all p (xs ++ ys) ≡ (all p xs && all p ys)
-  unfolding all
-  all-append p [] ys = refl
-  all-append p (x ∷ xs) ys = ap (λ b. p x && b) (all-append p xs ys) ∙ sym (and-assoc (p x) (all p xs) (all p ys))
+  pub every-append : (p : A → Bool) (xs ys : List A) → every p (xs ++ ys) ≡ (every p xs && every p ys)
+  unfolding every
+  every-append p [] ys = refl
+  every-append p (x ∷ xs) ys = ap (λ b. p x && b) (every-append p xs ys) ∙ sym (and-assoc (p x) (every p xs) (every p ys))
 
   -- where a list passes, the entry at i does
-  pub all-getD : (p : A → Bool) (xs : List A) (i : ℕ) (d : A) → all p xs ≡ true → i < length xs → p (getD xs i d) ≡ true
-  unfolding all
-  all-getD p [] i d e h = absurd (not-suc-le-zero h)
-  all-getD p (x ∷ xs) zero d e h = and-eq-true-iff (p x) (all p xs) .0 e .0
-  all-getD p (x ∷ xs) (suc i) d e h = all-getD p xs i d (and-eq-true-iff (p x) (all p xs) .0 e .1) (le-of-suc-le-suc h)
+  pub every-getD : (p : A → Bool) (xs : List A) (i : ℕ) (d : A) → every p xs ≡ true → i < length xs → p (getD xs i d) ≡ true
+  unfolding every
+  every-getD p [] i d e h = absurd (not-suc-le-zero h)
+  every-getD p (x ∷ xs) zero d e h = and-eq-true-iff (p x) (every p xs) .0 e .0
+  every-getD p (x ∷ xs) (suc i) d e h = every-getD p xs i d (and-eq-true-iff (p x) (every p xs) .0 e .1) (le-of-suc-le-suc h)
 
   -- and the other way round
-  pub getD-all : (p : A → Bool) (xs : List A) (d : A) → ((i : ℕ) → i < length xs → p (getD xs i d) ≡ true) → all p xs ≡ true
-  unfolding all
-  getD-all p [] d h = refl
-  getD-all p (x ∷ xs) d h = and-eq-true-iff (p x) (all p xs) .1 (h zero (zero-lt-suc (length xs)), getD-all p xs d (λ i l. h (suc i) (suc-le-suc l)))
+  pub getD-every : (p : A → Bool) (xs : List A) (d : A) → ((i : ℕ) → i < length xs → p (getD xs i d) ≡ true) → every p xs ≡ true
+  unfolding every
+  getD-every p [] d h = refl
+  getD-every p (x ∷ xs) d h = and-eq-true-iff (p x) (every p xs) .1 (h zero (zero-lt-suc (length xs)), getD-every p xs d (λ i l. h (suc i) (suc-le-suc l)))
 
   -- where a list passes, any part of it does
-  pub all-part : (p : A → Bool) (i n : ℕ) (xs : List A) → all p xs ≡ true → all p (take n (drop i xs)) ≡ true
-  all-part p i n xs e = split n (drop i xs) (split i xs e .1) .0
+  pub every-part : (p : A → Bool) (i n : ℕ) (xs : List A) → every p xs ≡ true → every p (take n (drop i xs)) ≡ true
+  every-part p i n xs e = split n (drop i xs) (split i xs e .1) .0
     where
-      split : (i : ℕ) (xs : List A) → all p xs ≡ true → (all p (take i xs) ≡ true) × (all p (drop i xs) ≡ true)
-      split i xs e = and-eq-true-iff (all p (take i xs)) (all p (drop i xs)) .0 (sym (all-append p (take i xs) (drop i xs)) ∙ ap (all p) (take-append-drop i xs) ∙ e)
+      split : (i : ℕ) (xs : List A) → every p xs ≡ true → (every p (take i xs) ≡ true) × (every p (drop i xs) ≡ true)
+      split i xs e = and-eq-true-iff (every p (take i xs)) (every p (drop i xs)) .0 (sym (every-append p (take i xs) (drop i xs)) ∙ ap (every p) (take-append-drop i xs) ∙ e)
 
   -- what each entry that passes satisfies, every entry of a list that passes satisfies
-  pub all-each {κ} : {P : A → Type κ} (p : A → Bool) (xs : List A) → ((x : A) → p x ≡ true → P x) → all p xs ≡ true → Each P xs
-  unfolding all
-  all-each p [] f e = nil
-  all-each p (x ∷ xs) f e = cons (f x (and-eq-true-iff (p x) (all p xs) .0 e .0)) (all-each p xs f (and-eq-true-iff (p x) (all p xs) .0 e .1))
+  pub every-each {κ} : {P : A → Type κ} (p : A → Bool) (xs : List A) → ((x : A) → p x ≡ true → P x) → every p xs ≡ true → Each P xs
+  unfolding every
+  every-each p [] f e = nil
+  every-each p (x ∷ xs) f e = cons (f x (and-eq-true-iff (p x) (every p xs) .0 e .0)) (every-each p xs f (and-eq-true-iff (p x) (every p xs) .0 e .1))
 
   -- a list whose every entry passes does
-  pub each-all : {p : A → Bool} {xs : List A} → Each (λ x. p x ≡ true) xs → all p xs ≡ true
-  unfolding all
-  each-all nil = refl
-  each-all {p} (cons {x = x} {xs = xs} h e) = and-eq-true-iff (p x) (all p xs) .1 (h, each-all e)
+  pub each-every : {p : A → Bool} {xs : List A} → Each (λ x. p x ≡ true) xs → every p xs ≡ true
+  unfolding every
+  each-every nil = refl
+  each-every {p} (cons {x = x} {xs = xs} h e) = and-eq-true-iff (p x) (every p xs) .1 (h, each-every e)
 
   -- where a list passes, what is left of it does
-  pub all-drop : (p : A → Bool) (n : ℕ) (xs : List A) → all p xs ≡ true → all p (drop n xs) ≡ true
-  unfolding all
-  all-drop p zero xs e = e
-  all-drop p (suc n) [] e = e
-  all-drop p (suc n) (x ∷ xs) e = all-drop p n xs (and-eq-true-iff (p x) (all p xs) .0 e .1)
+  pub every-drop : (p : A → Bool) (n : ℕ) (xs : List A) → every p xs ≡ true → every p (drop n xs) ≡ true
+  unfolding every
+  every-drop p zero xs e = e
+  every-drop p (suc n) [] e = e
+  every-drop p (suc n) (x ∷ xs) e = every-drop p n xs (and-eq-true-iff (p x) (every p xs) .0 e .1)
 
   -- one more entry tested
-  pub all-suc : (p : A → Bool) (xs : List A) (i : ℕ) (d : A) → i < length xs → all p (take (suc i) xs) ≡ (all p (take i xs) && p (getD xs i d))
-  unfolding all
-  all-suc p xs i d h = rw (take-suc xs i d, all-append, and-true)
+  pub every-suc : (p : A → Bool) (xs : List A) (i : ℕ) (d : A) → i < length xs → every p (take (suc i) xs) ≡ (every p (take i xs) && p (getD xs i d))
+  unfolding every
+  every-suc p xs i d h = rw (take-suc xs i d, every-append, and-true)
 
 module _ {ℓ κ} {A : Type ℓ} {B : Type κ} where
   -- a map passes where every value of f does
-  pub all-map : (p : B → Bool) (f : A → B) (xs : List A) → ((x : A) → p (f x) ≡ true) → all p (map f xs) ≡ true
-  unfolding all
-  all-map p f [] h = refl
-  all-map p f (x ∷ xs) h = and-eq-true-iff (p (f x)) (all p (map f xs)) .1 (h x, all-map p f xs h)
+  pub every-map : (p : B → Bool) (f : A → B) (xs : List A) → ((x : A) → p (f x) ≡ true) → every p (map f xs) ≡ true
+  unfolding every
+  every-map p f [] h = refl
+  every-map p f (x ∷ xs) h = and-eq-true-iff (p (f x)) (every p (map f xs)) .1 (h x, every-map p f xs h)
 
 -- ---- a test of every entry by counting those that fail
 
@@ -217,11 +217,11 @@ module _ {ℓ} {A : Type ℓ} where
   pub record Counted (p : A → Bool) (xs : List A) (n i : ℕ) : Type ℓ where
     pub within : i ≤ length xs
     pub few : n ≤ i
-    pub so-far : eqb n 0 ≡ all p (take i xs)
+    pub so-far : eqb n 0 ≡ every p (take i xs)
 
   -- at first there is none
   pub count-start : (p : A → Bool) (xs : List A) → Counted p xs 0 0
-  unfolding all
+  unfolding every
   count-start p xs = record { within = omega arith; few = omega arith; so-far = refl }
 
   -- the next entry counts 0 where it passes and 1 where it fails
@@ -231,11 +231,11 @@ module _ {ℓ} {A : Type ℓ} where
       record {
         within = omega arith;
         few = omega (arith, count-one (p (getD xs i d)));
-        so-far = rw (e, add-one, all-suc p xs i d) (count-zero n _ (p (getD xs i d)) (f .so-far));
+        so-far = rw (e, add-one, every-suc p xs i d) (count-zero n _ (p (getD xs i d)) (f .so-far));
       }
 
   -- at the end the count is 0 exactly where every entry passes
-  pub count-end : {p : A → Bool} {xs : List A} {n i : ℕ} → Counted p xs n i → length xs ≤ i → eqb n 0 ≡ all p xs
+  pub count-end : {p : A → Bool} {xs : List A} {n i : ℕ} → Counted p xs n i → length xs ≤ i → eqb n 0 ≡ every p xs
   count-end {p} {xs} {n} {i} f h = f .so-far ∙ rw take-all
 
 -- ---- a list filled from its start, one entry after the other
@@ -300,13 +300,13 @@ part-take (suc i) n (suc m) [] h = refl
 part-take (suc i) n (suc m) (x ∷ xs) h = part-take i n m xs (omega arith)
 
 -- so they pass where the first m do
-pub all-part-take {ℓ} : {A : Type ℓ} (p : A → Bool) (i n m : ℕ) (xs : List A) → i + n ≤ m → all p (take m xs) ≡ true → all p (take n (drop i xs)) ≡ true
-all-part-take p i n m xs h e = rw (part-take i n m xs h) at (all-part p i n (take m xs) e)
+pub all-part-take {ℓ} : {A : Type ℓ} (p : A → Bool) (i n m : ℕ) (xs : List A) → i + n ≤ m → every p (take m xs) ≡ true → every p (take n (drop i xs)) ≡ true
+all-part-take p i n m xs h e = rw (part-take i n m xs h) at (every-part p i n (take m xs) e)
 
 -- all from i on put in as one part
 pub put-to-end {ℓ} : {A : Type ℓ} (i : ℕ) (xs ys : List A) → take i xs ++ (ys ++ drop (length xs - i) (drop i xs)) ≡ take i xs ++ ys
 put-to-end i xs ys =
-    let all : length (drop i xs) ≤ length xs - i = simp length-drop (omega arith) in
+    let every : length (drop i xs) ≤ length xs - i = simp length-drop (omega arith) in
     rw (drop-of-length-le (drop i xs), append-nil)
 
 -- a first part of n entries, put in and read again
@@ -508,12 +508,12 @@ module _ {ℓ} {A : Type ℓ} where
   getD-flatten {n} {rows} es i d h = sym (getD-cut n (length rows) (flatten rows) i d h) ∙ ap (λ (l : List (List A)). getD l i d) (cut-flatten es)
 
   -- a test that all entries of the rows pass
-  pub flatten-all : (p : A → Bool) (rows : List (List A)) → all p (flatten rows) ≡ true → Each (λ row. all p row ≡ true) rows
+  pub flatten-every : (p : A → Bool) (rows : List (List A)) → every p (flatten rows) ≡ true → Each (λ row. every p row ≡ true) rows
   unfolding flatten
-  flatten-all p [] t = nil
-  flatten-all p (row ∷ rows) t =
-      let both : (all p row ≡ true) × (all p (flatten rows) ≡ true) = and-eq-true-iff (all p row) (all p (flatten rows)) .0 (sym (all-append p row (flatten rows)) ∙ t) in
-      cons (both .0) (flatten-all p rows (both .1))
+  flatten-every p [] t = nil
+  flatten-every p (row ∷ rows) t =
+      let both : (every p row ≡ true) × (every p (flatten rows) ≡ true) = and-eq-true-iff (every p row) (every p (flatten rows)) .0 (sym (every-append p row (flatten rows)) ∙ t) in
+      cons (both .0) (flatten-every p rows (both .1))
 
   -- joined they are as many entries as the rows have
   pub length-flatten : {n : ℕ} {rows : List (List A)} → Each (λ row. length row ≡ n) rows → length (flatten rows) ≡ length rows * n
@@ -522,10 +522,10 @@ module _ {ℓ} {A : Type ℓ} where
   length-flatten {n} (cons {x = row} {xs = rows} e es) = omega (arith, length-append row (flatten rows), length-flatten es, suc-mul (length rows) n)
 
   -- and pass where each row does
-  pub all-flatten : (p : A → Bool) {rows : List (List A)} → Each (λ row. all p row ≡ true) rows → all p (flatten rows) ≡ true
-  unfolding flatten all
-  all-flatten p nil = refl
-  all-flatten p (cons {x = row} {xs = rows} e es) = all-append p row (flatten rows) ∙ and-eq-true-iff (all p row) (all p (flatten rows)) .1 (e, all-flatten p es)
+  pub every-flatten : (p : A → Bool) {rows : List (List A)} → Each (λ row. every p row ≡ true) rows → every p (flatten rows) ≡ true
+  unfolding flatten every
+  every-flatten p nil = refl
+  every-flatten p (cons {x = row} {xs = rows} e es) = every-append p row (flatten rows) ∙ and-eq-true-iff (every p row) (every p (flatten rows)) .1 (e, every-flatten p es)
 
   -- one row more
   pub flatten-suc : (rows : List (List A)) (row : List A) → flatten (rows ++ (row ∷ [])) ≡ flatten rows ++ row

@@ -9,7 +9,7 @@ use lib.IntN.{ℤ}
 use lib.ListN.{length, take, drop}
 use lib.Seq.{drop-drop}
 use borrow.Rule.Slice.PartMut.{putMid, mid-len}
-use Rattle.whole.specs.Lists.{all}
+use Rattle.whole.specs.Lists.{every}
 use Rattle.refusal.specs.declared.Params.{Params}
 use Rattle.scheme.specs.Arithmetic.{isResidue}
 use Rattle.circuit.specs.Wires.{Wire, part-wire}
@@ -27,11 +27,11 @@ module _ {A : Type 0} where
 pub record Operand (p : Params) (a : ℕ) (wires x : List ℤ) : Type 0 where
   pub is : x ≡ take (p .n) (drop a wires)
   pub long : length x ≡ p .n
-  pub inside : all (isResidue (p .q)) x ≡ true
+  pub inside : every (isResidue (p .q)) x ≡ true
 
 pub operand : (p : Params) (a at : ℕ) (wires : List ℤ) {x : List ℤ} → x ≡ take (a + p .n - a) (drop a wires) → a + p .n ≤ at → at + p .n ≤ length wires
-    → all (isResidue (p .q)) (take at wires) ≡ true → Operand p a wires x
+    → every (isResidue (p .q)) (take at wires) ≡ true → Operand p a wires x
 operand p a at wires e h g r =
     let w : Wire p (take (p .n) (drop a wires)) = part-wire p a at wires h (omega arith) r in
     let is = e ∙ ap (λ (k : ℕ). take k (drop a wires)) (add-sub-cancel-left a (p .n)) in
-    record { is = is; long = ap length is ∙ w .long; inside = ap (all (isResidue (p .q))) is ∙ w .inside }
+    record { is = is; long = ap length is ∙ w .long; inside = ap (every (isResidue (p .q))) is ∙ w .inside }

@@ -10,7 +10,7 @@ use native.Mathlib.Omega.{arith}
 use lib.IntN.{ℤ}
 use lib.ListN.{length, getD, take, drop, take-append-drop, drop-of-length-le}
 use lib.Seq.{length-take-le, take-all, take-at, drop-at, drop-drop}
-use Rattle.whole.specs.Lists.{Each, nil, cons, each-getD, getD-each, each-append, all, all-flatten, cut, length-cut, flatten-cut-take, cut-flatten-append, length-flatten, flatten-suc}
+use Rattle.whole.specs.Lists.{Each, nil, cons, each-getD, getD-each, each-append, every, every-flatten, cut, length-cut, flatten-cut-take, cut-flatten-append, length-flatten, flatten-suc}
 use Rattle.refusal.specs.declared.Params.{Params}
 use Rattle.refusal.specs.Parameters.{InRange}
 use Rattle.scheme.specs.Arithmetic.{isResidue}
@@ -31,7 +31,7 @@ pub record Worked (p : Params) (W : List ℤ) (gs : List Gate) (k : ℕ) (found 
 
 module _ {p : Params} {W : List ℤ} {gs : List Gate} {k : ℕ} {found : List ℤ} where
   -- at first all is as found
-  pub work-start : k * p .n ≤ length found → all (isResidue (p .q)) (take (k * p .n) found) ≡ true → Worked p W gs k found found 0
+  pub work-start : k * p .n ≤ length found → every (isResidue (p .q)) (take (k * p .n) found) ≡ true → Worked p W gs k found found 0
   unfolding run
   work-start h e =
       record {
@@ -66,8 +66,8 @@ module _ {p : Params} {W : List ℤ} {gs : List Gate} {k : ℕ} {found : List �
         sym (drop-drop (p .n) ((k + g) * p .n) out) ∙ ap (drop (p .n)) ends ∙ drop-drop (p .n) ((k + g) * p .n) found ∙ ap (λ (m : ℕ). drop m found) next
 
     -- so all entries there are residues
-    pub worked-inside : all (isResidue (p .q)) (take ((k + g) * p .n) out) ≡ true
-    worked-inside = rw begins (all-flatten (isResidue (p .q)) (getD-each [] (λ i h. each-getD (w .wires) i [] h .inside)))
+    pub worked-inside : every (isResidue (p .q)) (take ((k + g) * p .n) out) ≡ true
+    worked-inside = rw begins (every-flatten (isResidue (p .q)) (getD-each [] (λ i h. each-getD (w .wires) i [] h .inside)))
 
     -- one gate more, by what `work_gate` leaves
     pub work-step : {new : List ℤ} {h : Gate} (z : Gate) → InRange p → g < length gs → getD gs g z ≡ h → wrongGate (k + g) h ≡ false → length new ≡ length out

@@ -5,7 +5,7 @@ use mathlib.Core.List.{List}
 use Prim.Native.Nat.{ℕ, _+_, _*_}
 use lib.IntN.{ℤ}
 use lib.ListN.{length, take}
-use Rattle.whole.specs.Lists.{all}
+use Rattle.whole.specs.Lists.{every}
 use Rattle.refusal.specs.declared.Params.{Params}
 use Rattle.refusal.specs.First.{someTrue}
 use Rattle.refusal.specs.Parameters.{InRange}
@@ -20,6 +20,6 @@ pub record EvaluateReady (p : Params) (inputs : ℕ) (ks ls rs : List ℕ) (wire
   pub wires-long : length wires ≡ (inputs + length ks) * p .n
   pub key-long : length W ≡ p .n * (p .n * p .n)
   pub scratch-long : scratch ≡ p .n * p .n
-  pub inside : all (isResidue (p .q)) (take (inputs * p .n) wires) ≡ true
-  pub key-inside : all (isResidue (p .q * p .q)) W ≡ true
+  pub inside : every (isResidue (p .q)) (take (inputs * p .n) wires) ≡ true
+  pub key-inside : every (isResidue (p .q * p .q)) W ≡ true
   pub gates-right : someTrue (wrongGates inputs (records ks ls rs)) ≡ false

@@ -4,7 +4,7 @@ ghost use mathlib.Core.Bool.{true, false};
 ghost use mathlib.Core.List.{_++_, flatten};
 ghost use Prim.Native.Nat.{_+_, _*_, _≤_, _<_};
 ghost use lib.ListN.{length, take, drop};
-ghost use Rattle.whole.specs.Lists.{all, cut};
+ghost use Rattle.whole.specs.Lists.{every, cut};
 ghost use Rattle.refusal.specs.Parameters.{InRange};
 ghost use Rattle.scheme.specs.Arithmetic.{isResidue, XOR, NOT, AND};
 ghost use Rattle.modular.specs.Loans.{Modulus};
@@ -27,7 +27,7 @@ fn make_wire(
     scratch: &mut [i64],
     out: &mut [i64],
 )
-    requires { ⌜ Modulus q × (0 < length (now out)) × (length (now out) ≤ 1024) × (length (now c) ≡ length (now out)) × (length (now d) ≡ length (now out)) × (length (now scratch) ≡ length (now out) * length (now out)) × (length (now key) ≡ length (now out) * (length (now out) * length (now out))) × (all (isResidue q) (now c) ≡ true) × (all (isResidue q) (now d) ≡ true) × (all (isResidue (q * q)) (now key) ≡ true) ⌝ }
+    requires { ⌜ Modulus q × (0 < length (now out)) × (length (now out) ≤ 1024) × (length (now c) ≡ length (now out)) × (length (now d) ≡ length (now out)) × (length (now scratch) ≡ length (now out) * length (now out)) × (length (now key) ≡ length (now out) * (length (now out) * length (now out))) × (every (isResidue q) (now c) ≡ true) × (every (isResidue q) (now d) ≡ true) × (every (isResidue (q * q)) (now key) ≡ true) ⌝ }
     ensures { λ r. ⌜ now (out .exit) ≡ byKind kind (XOR q (now (c .entry)) (now (d .entry))) (AND (length (now (out .entry))) q (now (key .entry)) (now (c .entry)) (now (d .entry))) (NOT q (now (c .entry))) ⌝ }
 {
     if kind == 0 {
@@ -54,7 +54,7 @@ fn work_gate(
     d: &mut [i64],
     scratch: &mut [i64],
 )
-    requires { ⌜ InRange p × (own * p .n + p .n ≤ length (now wires)) × (wrongGate own (gate kind left right) ≡ false) × (length (now c) ≡ p .n) × (length (now d) ≡ p .n) × (length (now scratch) ≡ p .n * p .n) × (all (isResidue (p .q)) (take (own * p .n) (now wires)) ≡ true) × (length (now key) ≡ p .n * (p .n * p .n)) × (all (isResidue (p .q * p .q)) (now key) ≡ true) ⌝ }
+    requires { ⌜ InRange p × (own * p .n + p .n ≤ length (now wires)) × (wrongGate own (gate kind left right) ≡ false) × (length (now c) ≡ p .n) × (length (now d) ≡ p .n) × (length (now scratch) ≡ p .n * p .n) × (every (isResidue (p .q)) (take (own * p .n) (now wires)) ≡ true) × (length (now key) ≡ p .n * (p .n * p .n)) × (every (isResidue (p .q * p .q)) (now key) ≡ true) ⌝ }
     ensures { λ r. ⌜ now (wires .exit) ≡ take (own * p .n) (now (wires .entry)) ++ (gateWire p (now (key .entry)) (gate kind left right) (cut (p .n) own (now (wires .entry))) ++ drop (own * p .n + p .n) (now (wires .entry))) ⌝ }
 {
     let n = p.n as usize;

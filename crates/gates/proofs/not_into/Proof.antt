@@ -13,7 +13,7 @@ use mir.Val.{toZ}
 use mir.Facts.{toZ-ofZ, toZ-pos}
 use borrow.Author.Needs.{needs, sfits-of}
 use Rattle.whole.specs.Centred.{centred}
-use Rattle.whole.specs.Lists.{all-getD}
+use Rattle.whole.specs.Lists.{every-getD}
 use Rattle.whole.specs.Machine.{fits64}
 use Rattle.scheme.specs.Arithmetic.{half, isResidue, NOT}
 use Rattle.scheme.specs.Wording.{residue-size}
@@ -38,7 +38,7 @@ share q k h = le-div-iff-mul-le {k = 2} {x = q / k} {y = q} (omega arith) .1 (om
 
 -- entry 0 of c is a residue
 first-size : (c : tie.Start) → natAbs (getD (c .args .c .now) 0 (pos 0)) ≤ c .args .q / 2
-first-size c = residue-size _ _ (all-getD (isResidue (c .args .q)) (c .args .c .now) 0 (pos 0) (c .pre .3) (omega arith))
+first-size c = residue-size _ _ (every-getD (isResidue (c .args .q)) (c .args .c .now) 0 (pos 0) (c .pre .3) (omega arith))
 
 div-half : tie.Need-div-half
 div-half c =

@@ -11,7 +11,7 @@ use lib.ListN.{length, getD}
 use mir.Facts.{toZ-ofZ}
 use borrow.Author.Needs.{sfits-of}
 use Rattle.whole.specs.Centred.{centred}
-use Rattle.whole.specs.Lists.{all, all-getD, length-zipWith, getD-zipWith, Filled, fill-start, fill-step, fill-end}
+use Rattle.whole.specs.Lists.{every, every-getD, length-zipWith, getD-zipWith, Filled, fill-start, fill-step, fill-end}
 use Rattle.scheme.specs.Arithmetic.{isResidue, XOR}
 use Rattle.scheme.specs.Wording.{residue-size}
 use Rattle.gates.proofs.Added.{sum-fits, sum-near, sum-is}
@@ -26,8 +26,8 @@ getD-xor : (q : ℕ) (c d : List ℤ) (i : ℕ) → i < length c → i < length 
 unfolding XOR
 getD-xor q c d i h g = getD-zipWith (λ x y. centred q (x +ℤ y)) c d i (pos 0) (pos 0) (pos 0) h g
 
-entry-size : (q : ℕ) (xs : List ℤ) (i : ℕ) → all (isResidue q) xs ≡ true → i < length xs → natAbs (getD xs i (pos 0)) ≤ q / 2
-entry-size q xs i r h = residue-size q (getD xs i (pos 0)) (all-getD (isResidue q) xs i (pos 0) r h)
+entry-size : (q : ℕ) (xs : List ℤ) (i : ℕ) → every (isResidue q) xs ≡ true → i < length xs → natAbs (getD xs i (pos 0)) ≤ q / 2
+entry-size q xs i r h = residue-size q (getD xs i (pos 0)) (every-getD (isResidue q) xs i (pos 0) r h)
 
 abbrev Inv-loop : tie.InvT-loop
 Inv-loop q c d out₀ i₀ out i = Filled (XOR q c d) out₀ out i

@@ -10,7 +10,7 @@ use lib.ListN.{length, take, drop}
 use mir.Facts.{toZ-ofZ}
 use borrow.Author.Needs.{sfits-of}
 use borrow.Rule.Slice.PartMut.{mid-len}
-use Rattle.whole.specs.Lists.{all-part, row-ends, Filled, fill-start, fill-step, fill-end}
+use Rattle.whole.specs.Lists.{every-part, row-ends, Filled, fill-start, fill-step, fill-end}
 use Rattle.scheme.specs.Arithmetic.{isResidue, switchEntry, switch}
 use Rattle.switch.proofs.Switching.{length-switch, getD-switch}
 use Rattle.switch.proofs.fill_switch.Statement.{statement}
@@ -48,7 +48,7 @@ switch-entry-requires c κs =
       omega (arith, mul-le-mul (s .pre .1) (s .pre .1)),
       mid-len at (at + width) key (inside (c .before)) ∙ add-sub-cancel-left at width,
       s .pre .4,
-      all-part (isResidue (s .args .q * s .args .q)) at (at + width - at) key (s .pre .5),
+      every-part (isResidue (s .args .q * s .args .q)) at (at + width - at) key (s .pre .5),
     )
 
 loop-again : tie.Need-loop-again Inv-loop μ-loop

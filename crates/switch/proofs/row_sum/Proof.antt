@@ -10,7 +10,7 @@ use mir.Syntax.{w64}
 use mir.Val.{toZ}
 use mir.Facts.{toZ-ofZ}
 use borrow.Author.Needs.{needs, sfits-of}
-use Rattle.whole.specs.Inner.{inner, inner-all}
+use Rattle.whole.specs.Inner.{inner, inner-every}
 use Rattle.whole.specs.Lists.{each-part}
 use Rattle.whole.specs.Machine.{word}
 use Rattle.switch.proofs.Chunks.{Held, Chunk, chunk}
@@ -95,7 +95,7 @@ add-t35 c = rest c .low
 returns : tie.Need-returns Inv-loop μ-loop
 returns c =
     let args = c .before .before .before .before .before .args in
-    (rest c .next .exact ∙ inner-all (args .t .now) (args .row .now) (length (args .t .now)) (omega arith) (omega arith), omega (arith, rest c .next .low))
+    (rest c .next .exact ∙ inner-every (args .t .now) (args .row .now) (length (args .t .now)) (omega arith) (omega arith), omega (arith, rest c .next .low))
 
 pub row-sum-spec : {M : Type 1} → statement M
 row-sum-spec =

@@ -20,7 +20,7 @@ use Rattle.whole.specs.Size.{size-add, size-mul}
 use Rattle.whole.specs.Floor.{Floor, floor-is}
 use Rattle.whole.specs.Centred.{centred}
 use Rattle.whole.specs.Machine.{fits64, word}
-use Rattle.whole.specs.Lists.{all-getD, getD-map, Filled, fill-start, fill-step, fill-end}
+use Rattle.whole.specs.Lists.{every-getD, getD-map, Filled, fill-start, fill-step, fill-end}
 use Rattle.scheme.specs.Arithmetic.{isResidue, tensorEntry}
 use Rattle.scheme.specs.Wording.{residue-size}
 use Rattle.tensor.specs.Lines.{reciprocalOf}
@@ -84,7 +84,7 @@ module _ (c : tie.After-up-to-half-arg Inv-loop μ-loop) where
   y-back = toZ-ofZ (sfits-of (c .up-to-half-arg .given))
 
   y-residue : isResidue (start .args .q) y ≡ true
-  y-residue = all-getD (isResidue (start .args .q)) (start .args .d .now) (c .before .before .loop .v) (pos 0) (start .pre .3) (c .before .loop-test .taken)
+  y-residue = every-getD (isResidue (start .args .q)) (start .args .d .now) (c .before .before .loop .v) (pos 0) (start .pre .3) (c .before .loop-test .taken)
 
   product-small : natAbs (slope start *ℤ y) ≤ 4398046511104 * (start .args .q / 2)
   product-small = rw size-mul (mul-le-mul (slope-small start) (residue-size (start .args .q) y y-residue))

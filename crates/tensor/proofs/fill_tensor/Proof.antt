@@ -15,7 +15,7 @@ use mir.Facts.{toZ-ofZ, toZ-pos}
 use borrow.Author.Needs.{needs, sfits-of}
 use borrow.Rule.Slice.PartMut.{mid-len}
 use Rattle.whole.specs.Machine.{fits64}
-use Rattle.whole.specs.Lists.{all-getD, length-grid, grid-row, row-ends, Filled, fill-start, fill-part, fill-end}
+use Rattle.whole.specs.Lists.{every-getD, length-grid, grid-row, row-ends, Filled, fill-start, fill-part, fill-end}
 use Rattle.scheme.specs.Arithmetic.{tensorEntry, tensor}
 use Rattle.tensor.specs.Lines.{reciprocalOf}
 use Rattle.tensor.proofs.fill_tensor.Statement.{statement}
@@ -72,7 +72,7 @@ fill-row-requires c κs =
     let s = l .before in
     let h : l .loop .at + length (s .args .d .now) ≤ length (l .loop .out) = omega (arith, inside (c .before .before)) in (
       s .pre .0,
-      rw (toZ-ofZ (sfits-of (c .before .fill-row-arg .given))) (all-getD _ _ _ (pos 0) (s .pre .1) (omega arith)),
+      rw (toZ-ofZ (sfits-of (c .before .fill-row-arg .given))) (every-getD _ _ _ (pos 0) (s .pre .1) (omega arith)),
       reciprocal-back s,
       s .pre .2,
       mid-len (l .loop .at) (l .loop .at + length (s .args .d .now)) (l .loop .out) h ∙ add-sub-cancel-left (l .loop .at) (length (s .args .d .now)),

@@ -7,7 +7,7 @@ use native.Mathlib.Omega.{arith}
 use mir.Val.{boolByte}
 use borrow.Author.Needs.{needs}
 use borrow.Author.Tests.{not-true, not-false}
-use Rattle.whole.specs.Lists.{all}
+use Rattle.whole.specs.Lists.{every}
 use Rattle.scheme.specs.Arithmetic.{isResidue}
 use Rattle.bench.specs.Lent.{isModulus, bigResidues, modulus}
 use Rattle.bench.proofs.range.bench_range.Statement.{statement}
@@ -27,7 +27,7 @@ most true k = omega arith
 most false k = omega arith
 
 abbrev Inv-loop : tie.InvT-loop
-Inv-loop q key times found₀ k₀ found k = (k ≤ times) × (found ≡ cond (all (isResidue (q * q)) key) k 0)
+Inv-loop q key times found₀ k₀ found k = (k ≤ times) × (found ≡ cond (every (isResidue (q * q)) key) k 0)
 
 abbrev μ-loop : tie.MeasureT-loop
 μ-loop q key times found₀ k₀ found k = times - k
@@ -42,7 +42,7 @@ is-one c = sym (c .before .is-modulus .ensures) ∙ not-false _ (c .if1 .left)
 loop-holds : tie.Need-loop-holds Inv-loop μ-loop
 loop-holds c =
     let a = c .before .before .args in
-    (omega arith, none (all (isResidue (a .q * a .q)) (a .key .now)))
+    (omega arith, none (every (isResidue (a .q * a .q)) (a .key .now)))
 
 all-big-residues-requires : tie.Need-all-big-residues-requires Inv-loop μ-loop
 all-big-residues-requires c κs = modulus _ (is-one (c .before .before))

@@ -11,23 +11,23 @@ use mir.Syntax.{w64}
 use mir.Val.{SFits}
 use borrow.Author.Needs.{sfits-of}
 use borrow.Author.Tests.{not-true, not-false}
-use Rattle.whole.specs.Lists.{all}
-use Rattle.stream.specs.Bounds.{Counts}
+use Rattle.whole.specs.Lists.{every}
+use Rattle.stream.specs.Bounds.{CountIn}
 use Rattle.stream.specs.Front.{front, Put, put-none, put-more, put-all}
 use Rattle.stream.specs.Ranges.{isNarrow, narrow-fits}
-use Rattle.edges.specs.Guard.{leading, all-more, all-less, all-passed, leading-less, leading-all}
+use Rattle.edges.specs.Guard.{leading, every-more, every-less, every-passed, leading-less, leading-all}
 use Rattle.edges.proofs.Ranges.{counts}
 use Rattle.edges.proofs.guard.narrow.Statement.{statement}
 use Rattle.edges.proofs.guard.narrow.Tie as tie
 
 abbrev Inv-loop : tie.InvT-loop
-Inv-loop from to₀ i₀ i-end to i = (i ≤ i-end) × (i-end ≡ length from) × Put from to₀ to i × (all isNarrow (take i from) ≡ true)
+Inv-loop from to₀ i₀ i-end to i = (i ≤ i-end) × (i-end ≡ length from) × Put from to₀ to i × (every isNarrow (take i from) ≡ true)
 
 abbrev μ-loop : tie.MeasureT-loop
 μ-loop from to₀ i₀ i-end to i = i-end - i
 
 loop-holds : tie.Need-loop-holds Inv-loop μ-loop
-unfolding all
+unfolding every
 loop-holds c = (omega arith, omega arith, put-none _ _, refl)
 
 -- the entry of the turn
@@ -42,13 +42,13 @@ abbrev Stopped : tie.After-x Inv-loop μ-loop → Type 0
 Stopped c =
     let from = c .before .before .before .args .from .now in
     let to = c .before .before .loop .to in
-    (false ≡ all isNarrow from) × ((to ≡ front (leading isNarrow from) (c .before .before .before .args .to .now)) × Counts (length from) to)
+    (false ≡ every isNarrow from) × ((to ≡ front (leading isNarrow from) (c .before .before .before .args .to .now)) × CountIn (length from) to)
 
 stopped : (c : tie.After-x Inv-loop μ-loop) → isNarrow (entry c) ≡ false → Stopped c
 stopped c e =
     let s = c .before .before in
     let from = s .before .args .from .now in (
-      sym (all-less isNarrow from (s .loop .i) (omega arith) e),
+      sym (every-less isNarrow from (s .loop .i) (omega arith) e),
       (rw (leading-less isNarrow from (s .loop .i) (omega arith) (s .loop .inv .3) e) (s .loop .inv .2 .so-far), counts _ _ (omega (arith, s .loop .inv .2 .kept))),
     )
 
@@ -72,13 +72,13 @@ loop-again c =
       omega arith,
       omega arith,
       put-more (s .loop .inv .2) _ (pos 0) (omega arith) (omega arith) (simp (toZ-ofZ, fits (c .before .before), narrow-fits (entry (c .before .before)) (narrow c))),
-      all-more isNarrow from (s .loop .i) (omega arith) (s .loop .inv .3) (narrow c),
+      every-more isNarrow from (s .loop .i) (omega arith) (s .loop .inv .3) (narrow c),
     )
 
 returns-2 : tie.Need-returns-2 Inv-loop μ-loop
 returns-2 c =
     let from = c .before .before .args .from .now in
-    let e = all-passed isNarrow from (c .before .loop .i) (omega arith) (c .before .loop .inv .3) in
+    let e = every-passed isNarrow from (c .before .loop .i) (omega arith) (c .before .loop .inv .3) in
     (sym e, (rw (leading-all isNarrow from e) (put-all (c .before .loop .inv .2) (omega arith)), counts _ _ (omega (arith, c .before .loop .inv .2 .kept))))
 
 pub narrow-spec : {M : Type 1} → statement M

@@ -7,15 +7,15 @@ use native.Mathlib.Omega.{arith}
 use lib.IntN.{ℤ, pos}
 use borrow.Author.Needs.{needs}
 use Rattle.whole.specs.Tests.{and-both}
-use Rattle.whole.specs.Lists.{all, all-getD}
+use Rattle.whole.specs.Lists.{every, every-getD}
 use Rattle.scheme.specs.Arithmetic.{isResidue}
 use Rattle.edges.proofs.Ranges.{passed}
 use Rattle.edges.proofs.number.tensor.Statement.{statement}
 use Rattle.edges.proofs.number.tensor.Tie as tie
 
 -- a list of one residue
-alone : (q : ℕ) (x : ℤ) → isResidue q x ≡ true → all (isResidue q) (x ∷ []) ≡ true
-unfolding all
+alone : (q : ℕ) (x : ℤ) → isResidue q x ≡ true → every (isResidue q) (x ∷ []) ≡ true
+unfolding every
 alone q x r = and-both r refl
 
 fill-tensor-requires : tie.Need-fill-tensor-requires
@@ -25,8 +25,8 @@ fill-tensor-requires c κs =
     let q = s .args .q in
     let h = passed (e .before .all-residues .ensures) (e .if1 .left) in (
       s .pre,
-      alone q _ (all-getD (isResidue q) _ 0 (pos 0) h (omega arith)),
-      alone q _ (all-getD (isResidue q) _ 1 (pos 0) h (omega arith)),
+      alone q _ (every-getD (isResidue q) _ 0 (pos 0) h (omega arith)),
+      alone q _ (every-getD (isResidue q) _ 1 (pos 0) h (omega arith)),
       refl,
       omega arith,
       omega arith,

@@ -2,7 +2,7 @@
 use mathlib.Core.Path.{sym, ap, _∙_}
 use Prim.Native.Nat.{ℕ}
 use native.Mathlib.Omega.{arith}
-use Rattle.whole.specs.Lists.{all}
+use Rattle.whole.specs.Lists.{every}
 use Rattle.scheme.specs.Arithmetic.{isResidue}
 use Rattle.modular.specs.Loans.{square}
 use Rattle.modular.proofs.range.all_big_residues.Statement.{statement}
@@ -15,7 +15,7 @@ all-below-requires : tie.Need-all-below-requires
 all-below-requires c κs = omega (arith, square (c .pre))
 
 returns : tie.Need-returns
-returns c = c .all-below .ensures ∙ ap (λ (m : ℕ). all (isResidue m) (c .before .args .xs .now)) (sym (square (c .before .pre) .even))
+returns c = c .all-below .ensures ∙ ap (λ (m : ℕ). every (isResidue m) (c .before .args .xs .now)) (sym (square (c .before .pre) .even))
 
 pub all-big-residues-spec : {M : Type 1} → statement M
 all-big-residues-spec = tie.close (tie.spec mul-all-below all-below-requires returns)

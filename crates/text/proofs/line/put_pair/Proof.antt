@@ -1,6 +1,6 @@
 -- `line::put_pair` writes the word and two fields, each behind the other. Numbers of 32 bits have at most 10 digits.
 use native.Mathlib.Omega.{arith}
-use Rattle.circuitfile.specs.Text.{digits}
+use Rattle.circuitfile.specs.Text.{decimal}
 use Rattle.circuitfile.specs.Lines.{pairLine, word-few, length-field}
 use Rattle.gatfile.specs.Writing.{written-then, written-kept}
 use borrow.Author.Needs.{needs}
@@ -24,7 +24,7 @@ put-field-requires-2 c κs =
       written-kept w,
       v .stop,
       written-kept v,
-      length-field (digits (s .args .x)) 32,
+      length-field (decimal (s .args .x)) 32,
       s .pre .0,
       s .pre .3,
       word-few (s .args .x) (s .pre .1),

@@ -3,7 +3,7 @@
 use native.Mathlib.Omega.{arith}
 use Prim.Native.Nat.{_≤_}
 use lib.ListN.{length}
-use Rattle.circuitfile.specs.Text.{digits, kindWord}
+use Rattle.circuitfile.specs.Text.{decimal, kindWord}
 use Rattle.circuitfile.specs.Order.{head-right}
 use Rattle.circuitfile.specs.Lines.{wire-fields, kind-few, wire-few, word-few, length-field}
 use Rattle.gatfile.specs.Writing.{written-then, written-as, written-kept}
@@ -11,7 +11,7 @@ use borrow.Author.Needs.{needs}
 use Rattle.text.proofs.line.put_wire.Statement.{statement}
 use Rattle.text.proofs.line.put_wire.Tie as tie
 
-few : (s : tie.Start) → length (digits (s .args .wire)) ≤ 4
+few : (s : tie.Start) → length (decimal (s .args .wire)) ≤ 4
 few s = wire-few (s .args .wire) (omega (arith, s .pre .1, head-right _ (s .pre .0) .wires-high))
 
 put-field-requires : tie.Need-put-field-requires
@@ -23,7 +23,7 @@ put-kind-requires : tie.Need-put-kind-requires
 put-kind-requires c κs =
     let s = c .before .before .before .before .before .before .before in
     let w = c .before .before .before .put-field .ensures in
-    (s .pre .0, s .pre .1, omega (arith, w .stop, written-kept w, length-field (digits (s .args .wire)) 32, s .pre .2, few s))
+    (s .pre .0, s .pre .1, omega (arith, w .stop, written-kept w, length-field (decimal (s .args .wire)) 32, s .pre .2, few s))
 
 put-field-requires-2 : tie.Need-put-field-requires-2
 put-field-requires-2 c κs =
@@ -34,7 +34,7 @@ put-field-requires-2 c κs =
       arith,
       w .stop,
       written-kept w,
-      length-field (digits (s .args .wire)) 32,
+      length-field (decimal (s .args .wire)) 32,
       v .stop,
       written-kept v,
       length-field (kindWord (s .args .file .now) (s .args .wire)) 32,
@@ -54,12 +54,12 @@ returns c =
       omega (
         arith,
         w .stop,
-        length-field (digits (s .args .wire)) 32,
+        length-field (decimal (s .args .wire)) 32,
         v .stop,
         length-field (kindWord (s .args .file .now) (s .args .wire)) 32,
         kind-few (s .args .file .now) (s .args .wire),
         u .stop,
-        length-field (digits (s .args .bound)) 10,
+        length-field (decimal (s .args .bound)) 10,
         few s,
         word-few (s .args .bound) (s .fits .bound .fits),
       ),

@@ -1,4 +1,4 @@
--- `write::put_number` writes the digits as `digits` has them: one, or the last behind the others, which are those of x/10. The measure is the number.
+-- `write::put_number` writes the digits as `decimal` has them: one, or the last behind the others, which are those of x/10. The measure is the number.
 use mathlib.Core.Path.{refl, sym}
 use borrow.Author.Needs.{needs}
 use native.Mathlib.Omega.{arith}
@@ -6,7 +6,7 @@ use Prim.Native.Nat.{ℕ, _≤_, _<_}
 use borrow.Fn.Kinds.{In}
 use borrow.Fn.PlainCycle.{Measures, is, falls, and}
 use lib.ListN.{length-set}
-use Rattle.circuitfile.specs.Digits.{digits-short, digits-long, length-short, length-long}
+use Rattle.circuitfile.specs.Digits.{decimal-short, decimal-long, length-short, length-long}
 use Rattle.gatfile.specs.Writing.{written-byte, written-then, written-as, written-kept}
 use Rattle.text.proofs.write.put_number.Reads as put-number
 use Rattle.text.proofs.write.put_number.Kinds as put-number-kinds
@@ -67,7 +67,7 @@ put-number-returns :
     put-number.Post
 put-number-returns t c =
     let a = c .before .before .args in
-    written-as (sym (digits-short (a .x) (c .if1 .taken))) (written-byte _ (a .at) _ _ (omega (arith, c .before .before .pre .1, length-short _ (c .if1 .taken))) refl)
+    written-as (sym (decimal-short (a .x) (c .if1 .taken))) (written-byte _ (a .at) _ _ (omega (arith, c .before .before .pre .1, length-short _ (c .if1 .taken))) refl)
 
 put-number-put-number-requires : (t : ℕ) → put-number-lts.Need-put-number-requires (
   put-number-below t,
@@ -119,7 +119,7 @@ put-number-returns-2 t c =
     let s = c .before .before .before .before .before .before in
     let w = c .before .before .put-number .ensures in
     let ten : 10 ≤ s .args .x = c .before .before .before .before .if1 .left in
-    written-as (sym (digits-long (s .args .x) ten))
+    written-as (sym (decimal-long (s .args .x) ten))
     (written-then w (written-byte _ _ _ _ (omega (arith, s .pre .1, length-long (s .args .x) ten, w .stop, written-kept w)) refl))
 
 pub +put-number-spec : {M : Type 1} → statement M
