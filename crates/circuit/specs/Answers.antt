@@ -1,77 +1,60 @@
--- What a call on a circuit answers: its rows are some in front, of numbers below 9, and then 9 and 10 for the gates. The number and the place
--- of each end, for planning and evaluation alike. And the counts that 2 lets pass.
-use mathlib.Core.Path.{_≡_, refl, sym, ap, ap₂, _∙_}
+-- What a call on a circuit answers at each of its ends, for planning and evaluation alike: its rows are some in front, and then 9 and 10 for the gates. And the
+-- counts that 2 lets pass.
+use mathlib.Core.Path.{_≡_, sym, ap₂, _∙_}
 use mathlib.Core.Logic.{_≢_}
-use mathlib.Core.Bool.{false, not}
-use mathlib.Core.List.{List, _++_}
+use mathlib.Core.Bool.{Bool, true, false, not}
+use mathlib.Core.List.{List, [], _∷_, _++_}
 use Prim.Native.Nat.{ℕ, _≤_, _<_}
 use native.Mathlib.Omega.{arith}
 use lib.Dec.{leb}
 use lib.ListN.{length}
-use borrow.Author.Tests.{ne-eqb, leb-true, not-false}
+use borrow.Author.Tests.{leb-true, not-false}
 use Rattle.whole.specs.Tests.{and-right, or-left, or-right}
 use Rattle.refusal.specs.declared.Params.{Params}
-use Rattle.refusal.specs.First.{Row, firstOf, firstTrue, Clear, first-row, first-none, first-front, first-rest, some-first, none-first}
-use Rattle.refusal.specs.Parameters.{within, refused}
+use Rattle.refusal.specs.First.{Row, rowOf, refused, firstOf, placeOf, answerOf, firstTrue, someTrue, Clear, areSingle, place-single, answer-front, answer-rest, answer-row, answer-past, some-first, none-first}
+use Rattle.refusal.specs.Parameters.{within}
 use Rattle.circuit.specs.declared.Gate.{Gate}
-use Rattle.circuit.specs.Circuits.{wrongGates, overGates, badCounts, gateRows, placeOf}
+use Rattle.circuit.specs.Circuits.{wrongGates, overGates, badCounts, gateRows}
 use Rattle.circuit.specs.Records.{length-wrongGates, length-overGates}
 
-module _ (p : Params) (inputs : ℕ) (gates : List Gate) (Bs : List ℕ) where
-  -- ---- the place
+module _ (p : Params) (inputs : ℕ) (gates : List Gate) (Bs : List ℕ) (front : List Row) where
+  abbrev wrong : List Bool
+  wrong = wrongGates inputs gates
 
-  pub place-early : (k : ℕ) → k < 9 → placeOf p inputs gates Bs k ≡ 0
-  unfolding placeOf
-  place-early k h = rw (ne-eqb k 9 (λ e. omega arith), ne-eqb k 10 (λ e. omega arith))
+  abbrev over : List Bool
+  over = overGates p gates Bs
 
-  pub place-wrong : placeOf p inputs gates Bs 9 ≡ firstTrue (wrongGates inputs gates)
-  unfolding placeOf
-  place-wrong = refl
+  abbrev rows : List Row
+  rows = front ++ gateRows p inputs gates Bs
 
-  pub place-over : placeOf p inputs gates Bs 10 ≡ firstTrue (overGates p gates Bs)
-  unfolding placeOf
-  place-over = refl
+  -- a row in front applies, and each has one test
+  pub answered-early : {n : ℕ} → n ≡ firstOf front → n ≢ 0 → areSingle front ≡ true → refused n 0 ≡ answerOf rows
+  answered-early e h single = sym (answer-front front (gateRows p inputs gates Bs) (λ z. h (e ∙ z)) ∙ ap₂ refused (sym e) (place-single front single))
 
-  -- the number n with the place of n
-  pub answer-at : {k n at : ℕ} → k ≡ n → placeOf p inputs gates Bs n ≡ at → refused n at ≡ refused k (placeOf p inputs gates Bs k)
-  answer-at e f = ap₂ refused (sym e) (sym (ap (placeOf p inputs gates Bs) e ∙ f))
+  module _ (clear : Clear front) where
+    behind : answerOf rows ≡ answerOf (gateRows p inputs gates Bs)
+    behind = answer-rest front (gateRows p inputs gates Bs) clear
 
-  -- ---- the number
-
-  abbrev rows : List Row → List Row
-  rows front = front ++ gateRows p inputs gates Bs
-
-  pub number-early : {n : ℕ} (front : List Row) → n ≡ firstOf front → n ≢ 0 → firstOf (rows front) ≡ n
-  number-early front e h = first-front front (gateRows p inputs gates Bs) (λ z. h (e ∙ z)) ∙ sym e
-
-  module _ (front : List Row) (clear : Clear front) where
-    pub number-wrong : firstTrue (wrongGates inputs gates) < length gates → firstOf (rows front) ≡ 9
+    -- some gate is wrong
+    pub answered-wrong : firstTrue wrong < length gates → refused 9 (firstTrue wrong) ≡ answerOf rows
     unfolding gateRows
-    number-wrong h =
-        first-rest front (gateRows p inputs gates Bs) clear
-        ∙ simp (first-row, first-none, some-first (wrongGates inputs gates) (omega (arith, length-wrongGates inputs gates)))
+    answered-wrong h = sym (behind ∙ answer-row 9 wrong _ (some-first wrong (omega (arith, length-wrongGates inputs gates))))
 
-    pub number-over : length gates ≤ firstTrue (wrongGates inputs gates) → firstTrue (overGates p gates Bs) < length gates → firstOf (rows front) ≡ 10
-    unfolding gateRows
-    number-over g h =
-        first-rest front (gateRows p inputs gates Bs) clear
-        ∙ simp (
-          first-row,
-          first-none,
-          none-first (wrongGates inputs gates) (omega (arith, length-wrongGates inputs gates)),
-          some-first (overGates p gates Bs) (omega (arith, length-overGates p gates Bs)),
-        )
+    module _ (right : length gates ≤ firstTrue wrong) where
+      none-wrong : someTrue wrong ≡ false
+      none-wrong = none-first wrong (omega (arith, length-wrongGates inputs gates))
 
-    pub number-done : length gates ≤ firstTrue (wrongGates inputs gates) → length gates ≤ firstTrue (overGates p gates Bs) → firstOf (rows front) ≡ 0
-    unfolding gateRows
-    number-done g h =
-        first-rest front (gateRows p inputs gates Bs) clear
-        ∙ simp (
-          first-row,
-          first-none,
-          none-first (wrongGates inputs gates) (omega (arith, length-wrongGates inputs gates)),
-          none-first (overGates p gates Bs) (omega (arith, length-overGates p gates Bs)),
-        )
+      -- none is, and some gate is over the budget
+      pub answered-over : firstTrue over < length gates → refused 10 (firstTrue over) ≡ answerOf rows
+      unfolding gateRows
+      answered-over h =
+          sym (behind ∙ answer-past 9 wrong (rowOf 10 over ∷ []) none-wrong ∙ answer-row 10 over [] (some-first over (omega (arith, length-overGates p gates Bs))))
+
+      -- neither
+      pub answered-done : length gates ≤ firstTrue over → refused 0 0 ≡ answerOf rows
+      unfolding gateRows firstOf placeOf
+      answered-done h =
+          sym (behind ∙ answer-past 9 wrong (rowOf 10 over ∷ []) none-wrong ∙ answer-past 10 over [] (none-first over (omega (arith, length-overGates p gates Bs))))
 
 -- ---- 2
 

@@ -1,21 +1,21 @@
--- Document 01, *Circuits*: what a gate makes, the run over all gates, the checks of each gate, and what planning and evaluation
--- answer and leave in the buffers that they borrow.
-use mathlib.Core.Bool.{Bool, not, cond, _||_}
-use mathlib.Core.List.{List, [], _∷_, _++_, map, flatten}
+-- Document 01, *Circuits*: what a gate makes, the run over all gates, the checks of each gate, and a circuit as it is lent.
+use mathlib.Core.Bool.{Bool, false, not, _||_}
+use mathlib.Core.List.{List, [], _∷_, _++_, map}
 use Prim.Native.Nat.{ℕ, zero, suc, _+_, _*_, _-_, _%_}
 use lib.Dec.{leb, ltb, eqb}
-use lib.IntN.{ℤ, pos}
-use lib.ListN.{length, getD, take, drop, replicate}
-use Rattle.whole.specs.Lists.{every, cut}
-use Rattle.refusal.specs.declared.Refusal.{Refusal}
+use lib.IntN.{ℤ}
+use lib.ListN.{length, getD, drop}
 use Rattle.refusal.specs.declared.Params.{Params}
-use Rattle.refusal.specs.First.{Row, row, firstOf, doneOr, firstTrue, someTrue}
-use Rattle.refusal.specs.Parameters.{within, refused}
-use Rattle.scheme.specs.Arithmetic.{XOR, XOR-bound, AND, AND-bound, NOT, NOT-bound, fits}
-use Rattle.scheme.specs.Calls.{badParams, differs, outside, overBudget}
+use Rattle.refusal.specs.First.{Row, rowOf}
+use Rattle.refusal.specs.Parameters.{within}
+use Rattle.scheme.specs.Arithmetic.{XOR, XOR-bound, AND, AND-bound, NOT, NOT-bound}
+use Rattle.scheme.specs.Calls.{differs, overBudget}
 use Rattle.circuit.specs.declared.Gate.{Gate}
 
 -- ---- a gate
+
+abbrev pub gate : ℕ → ℕ → ℕ → Gate
+gate k l r = record { kind = k; left = l; right = r }
 
 -- kind 0 XOR, 1 AND, 2 NOT
 unfoldable pub byKind : {A : Type 0} → ℕ → A → A → A → A
@@ -74,68 +74,39 @@ overGates p gates inputBs = map (overBudget (p .q)) (drop (length inputBs) (boun
 unfoldable pub badCounts : ℕ → ℕ → Bool
 badCounts inputs gates = not (within 1 1024 inputs) || not (within 1 4096 gates)
 
--- 9 and 10, all gates for 9 before any for 10
+-- 9 and 10, all gates for 9 before any for 10; the place is the first offending gate
 unfoldable pub gateRows : Params → ℕ → List Gate → List ℕ → List Row
-gateRows p inputs gates inputBs = row 9 (someTrue (wrongGates inputs gates)) ∷ row 10 (someTrue (overGates p gates inputBs)) ∷ []
-
--- the place for the number k: the first offending gate for 9 and 10, otherwise 0
-unfoldable pub placeOf : Params → ℕ → List Gate → List ℕ → ℕ → ℕ
-placeOf p inputs gates inputBs k =
-    cond (eqb k 9) (firstTrue (wrongGates inputs gates)) (cond (eqb k 10) (firstTrue (overGates p gates inputBs)) 0)
-
--- ---- planning: the input count, the gates, and the buffer of bounds (inputs filled)
-
-unfoldable pub planRows : Params → ℕ → List Gate → List ℕ → List Row
-planRows p inputs gates Bs =
-    row 1 (badParams p)
-    ∷ row 2 (badCounts inputs (length gates))
-    ∷ row 3 (differs (length Bs) (inputs + length gates))
-    ∷ row 8 (not (every (fits (p .q)) (take inputs Bs)))
-    ∷ gateRows p inputs gates (take inputs Bs)
-
-unfoldable pub planAnswer : Params → ℕ → List Gate → List ℕ → Refusal
-planAnswer p inputs gates Bs =
-    let k = firstOf (planRows p inputs gates Bs) in
-    refused k (placeOf p inputs gates (take inputs Bs) k)
-
-unfoldable pub planBounds : Params → ℕ → List Gate → List ℕ → List ℕ
-planBounds p inputs gates Bs = doneOr (firstOf (planRows p inputs gates Bs)) (boundsOf p gates (take inputs Bs)) Bs
-
--- ---- evaluation: also the buffer of all wires (inputs filled), the switching key, and n² of scratch, of which only the length counts
-
-unfoldable pub evaluateRows : Params → ℕ → List Gate → List ℤ → List ℕ → List ℤ → ℕ → List Row
-evaluateRows p inputs gates wires Bs W scratch =
-    row 1 (badParams p)
-    ∷ row 2 (badCounts inputs (length gates))
-    ∷ row 3 (differs (length wires) ((inputs + length gates) * p .n)
-    || differs (length Bs) (inputs + length gates)
-    || differs (length W) (p .n * (p .n * p .n))
-    || differs scratch (p .n * p .n))
-    ∷ row 6 (outside (p .q) (take (inputs * p .n) wires) || outside (p .q * p .q) W)
-    ∷ row 8 (not (every (fits (p .q)) (take inputs Bs)))
-    ∷ gateRows p inputs gates (take inputs Bs)
-
-unfoldable pub evaluateAnswer : Params → ℕ → List Gate → List ℤ → List ℕ → List ℤ → ℕ → Refusal
-evaluateAnswer p inputs gates wires Bs W scratch =
-    let k = firstOf (evaluateRows p inputs gates wires Bs W scratch) in
-    refused k (placeOf p inputs gates (take inputs Bs) k)
+gateRows p inputs gates inputBs = rowOf 9 (wrongGates inputs gates) ∷ rowOf 10 (overGates p gates inputBs) ∷ []
 
 -- the ciphertexts of all wires, from those of the inputs
 unfoldable pub wiresOf : Params → List ℤ → List Gate → List (List ℤ) → List (List ℤ)
 wiresOf p W gates inputCs = run (gateWire p W) gates inputCs
 
-unfoldable pub evaluateWires : Params → ℕ → List Gate → List ℤ → List ℕ → List ℤ → List ℤ → List ℤ
-evaluateWires p inputs gates wires Bs W scratch =
-    doneOr (firstOf (evaluateRows p inputs gates wires Bs W (length scratch))) (flatten (wiresOf p W gates (cut (p .n) inputs wires))) wires
-
-unfoldable pub evaluateBounds : Params → ℕ → List Gate → List ℤ → List ℕ → List ℤ → List ℤ → List ℕ
-evaluateBounds p inputs gates wires Bs W scratch =
-    doneOr (firstOf (evaluateRows p inputs gates wires Bs W (length scratch))) (boundsOf p gates (take inputs Bs)) Bs
-
-unfoldable pub evaluateScratch : Params → ℕ → List Gate → List ℤ → List ℕ → List ℤ → List ℤ → List ℤ
-evaluateScratch p inputs gates wires Bs W scratch =
-    doneOr (firstOf (evaluateRows p inputs gates wires Bs W (length scratch))) (replicate (p .n * p .n) (pos 0)) scratch
-
 -- the plaintext bits of all wires, from those of the inputs
 unfoldable pub bitsOf : List Gate → List ℕ → List ℕ
 bitsOf gates inputBits = run gateBit gates inputBits
+
+-- ---- a circuit as it is lent: a run of gate records, or three lists, the kinds, the lefts and the rights
+
+-- its gates, how many are lent, and whether it is three lists that have not one length, which is 3
+pub record Circuit : Type 0 where
+  pub gates : List Gate
+  pub count : ℕ
+  pub uneven : Bool
+
+abbrev pub asRecords : List Gate → Circuit
+asRecords gates = record { gates = gates; count = length gates; uneven = false }
+
+-- the gate records of three lists, as many as the shortest has
+unfoldable pub records : List ℕ → List ℕ → List ℕ → List Gate
+records [] ls rs = []
+records (k ∷ ks) [] rs = []
+records (k ∷ ks) (l ∷ ls) [] = []
+records (k ∷ ks) (l ∷ ls) (r ∷ rs) = gate k l r ∷ records ks ls rs
+
+unfoldable pub unevenLists : List ℕ → List ℕ → List ℕ → Bool
+unevenLists ks ls rs = differs (length ls) (length ks) || differs (length rs) (length ks)
+
+-- as many gates are lent as there are kinds
+abbrev pub asLists : List ℕ → List ℕ → List ℕ → Circuit
+asLists ks ls rs = record { gates = records ks ls rs; count = length ks; uneven = unevenLists ks ls rs }

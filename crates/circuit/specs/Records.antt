@@ -10,15 +10,15 @@ use lib.Dec.{leb, ltb, eqb}
 use lib.ListN.{length, getD, drop, length-map, length-drop}
 use lib.Seq.{getD-drop}
 use borrow.Author.Tests.{ltb-true, eqb-true, not-false}
-use Rattle.whole.specs.Tests.{or-left, or-right}
+use Rattle.whole.specs.Tests.{or-left, or-right, or-neither}
 use Rattle.whole.specs.Lists.{getD-map}
 use Rattle.refusal.specs.declared.Params.{Params}
-use Rattle.refusal.specs.First.{someTrue, none-true}
-use Rattle.scheme.specs.Calls.{overBudget}
+use Rattle.refusal.specs.First.{someTrue, none-at}
+use Rattle.scheme.specs.Calls.{differs, overBudget}
+use Rattle.scheme.specs.Passed.{length-is, lengths-same}
 use Rattle.circuit.specs.declared.Gate.{Gate}
-use Rattle.circuit.specs.Circuits.{byKind, gateBound, wrongGate, wrongGates, boundsOf, overGates}
+use Rattle.circuit.specs.Circuits.{gate, byKind, gateBound, wrongGate, wrongGates, boundsOf, overGates, records, unevenLists, Circuit, asRecords, asLists}
 use Rattle.circuit.specs.Run.{length-run}
-use Rattle.circuit.specs.Core.{gate, records}
 
 -- ---- the records
 
@@ -38,6 +38,25 @@ getD-records (k ∷ ks) [] rs i z e f h = absurd (omega arith)
 getD-records (k ∷ ks) (l ∷ ls) [] i z e f h = absurd (omega arith)
 getD-records (k ∷ ks) (l ∷ ls) (r ∷ rs) zero z e f h = refl
 getD-records (k ∷ ks) (l ∷ ls) (r ∷ rs) (suc i) z e f h = getD-records ks ls rs i z (suc-inj e) (suc-inj f) (le-of-suc-le-suc h)
+
+-- the three lists have one length
+abbrev pub Even : List ℕ → List ℕ → List ℕ → Type 0
+Even ks ls rs = (length ls ≡ length ks) × (length rs ≡ length ks)
+
+pub even-lengths : (ks ls rs : List ℕ) → unevenLists ks ls rs ≡ false → Even ks ls rs
+unfolding unevenLists
+even-lengths ks ls rs e =
+    let lefts : Bool = differs (length ls) (length ks) in
+    let rights : Bool = differs (length rs) (length ks) in
+    (length-is (length ls) (length ks) (or-left lefts rights e), length-is (length rs) (length ks) (or-right lefts rights e))
+
+-- **three lists of one length are their records**
+pub lists-records : (ks ls rs : List ℕ) → Even ks ls rs → asLists ks ls rs ≡ asRecords (records ks ls rs)
+unfolding unevenLists
+lists-records ks ls rs e =
+    let even : unevenLists ks ls rs ≡ false = or-neither (lengths-same _ _ (e .0)) (lengths-same _ _ (e .1)) in
+    let many : length (records ks ls rs) ≡ length ks = length-records ks ls rs (e .0) (e .1) in
+    rw (even, many)
 
 -- ---- the tests for 9
 
@@ -110,7 +129,7 @@ pub gates-below : (inputs own : ℕ) (ks ls rs : List ℕ) (i : ℕ) → own ≡
     → someTrue (wrongGates inputs (records ks ls rs)) ≡ false → Below own (gate (getD ks i 0) (getD ls i 0) (getD rs i 0))
 gates-below inputs own ks ls rs i wire e f h none =
     gate-below own (gate (getD ks i 0) (getD ls i 0) (getD rs i 0))
-    (rw wire (sym (getD-wrong-records inputs ks ls rs i e f h) ∙ none-true (wrongGates inputs (records ks ls rs)) i none))
+    (rw wire (sym (getD-wrong-records inputs ks ls rs i e f h) ∙ none-at (wrongGates inputs (records ks ls rs)) i none))
 
 -- ---- by kind
 

@@ -9,20 +9,19 @@ use lib.ListN.{length, getD, take, drop, length-drop}
 use lib.Seq.{length-take-le}
 use Rattle.whole.specs.Lists.{Each, each-getD, getD-each, every, all-part-take, cut, length-cut, getD-cut, row-ends}
 use Rattle.refusal.specs.declared.Params.{Params}
-use Rattle.refusal.specs.First.{someTrue, none-true}
+use Rattle.refusal.specs.First.{someTrue, none-at}
 use Rattle.refusal.specs.Parameters.{InRange}
 use Rattle.scheme.specs.Arithmetic.{isResidue, XOR, NOT, AND}
 use Rattle.scheme.specs.Wording.{length-XOR, xor-residues, length-NOT, not-residues, length-AND, and-residues}
 use Rattle.circuit.specs.declared.Gate.{Gate}
-use Rattle.circuit.specs.Circuits.{byKind, gateWire, wrongGate, wrongGates}
-use Rattle.circuit.specs.Core.{gate}
+use Rattle.circuit.specs.Circuits.{gate, byKind, gateWire, wrongGate, wrongGates}
 use Rattle.circuit.specs.Records.{Below, getD-wrongGates, gate-below}
 
 -- ---- a gate that is not wrong
 
 -- of gates of which none is wrong, gate i is not
 pub gate-right : (own : ℕ) (gs : List Gate) (i : ℕ) (z : Gate) → someTrue (wrongGates own gs) ≡ false → i < length gs → wrongGate (own + i) (getD gs i z) ≡ false
-gate-right own gs i z e h = sym (getD-wrongGates own gs i z h) ∙ none-true (wrongGates own gs) i e
+gate-right own gs i z e h = sym (getD-wrongGates own gs i z h) ∙ none-at (wrongGates own gs) i e
 
 -- ---- what a gate makes of its operands
 

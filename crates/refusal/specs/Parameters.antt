@@ -1,6 +1,6 @@
 -- Document 01, *Parameters*: the ranges of n, q, L, E and F, the six house sheets, and what the maker of a set answers.
 use mathlib.Core.Path.{_≡_, refl, ap, _∙_}
-use mathlib.Core.Bool.{Bool, true, false, not, _&&_}
+use mathlib.Core.Bool.{Bool, true, false, not, cond, _&&_}
 use mathlib.Core.List.{List, [], _∷_, map}
 use Prim.Native.Nat.{ℕ, zero, suc, _*_, _/_, _%_, _≤_, _<_}
 use native.Mathlib.Omega.{arith}
@@ -13,7 +13,8 @@ use Rattle.refusal.specs.declared.Refusal.{Refusal}
 use Rattle.refusal.specs.declared.Params.{Params}
 use Rattle.refusal.specs.declared.Made.{Made}
 use Rattle.refusal.specs.declared.Made.the-variants.{Set, Refused}
-use Rattle.refusal.specs.First.{Row, row, firstOf, doneOr, rising, Lowest, first-lowest}
+use Rattle.refusal.specs.First.{Row, row, refused, firstOf, first-last, doneOr}
+use Rattle.refusal.specs.Order.{positionIn, order, position, inOrder, Foremost, first-foremost}
 
 abbrev pub params : ℕ → ℕ → ℕ → ℕ → ℕ → Params
 params n q l e f = record { n = n; q = q; l = l; e = e; f = f }
@@ -21,9 +22,6 @@ params n q l e f = record { n = n; q = q; l = l; e = e; f = f }
 -- a refusal returns 0 in every other number
 abbrev pub noParams : Params
 noParams = params 0 0 0 0 0
-
-abbrev pub refused : ℕ → ℕ → Refusal
-refused k at = record { number = k; place = at }
 
 abbrev pub within : ℕ → ℕ → ℕ → Bool
 within low high x = leb low x && leb x high
@@ -68,11 +66,17 @@ sheet-in-range k h = every-getD inRange sheets k noParams sheets-in-range h
 
 -- ---- the maker, and the sheet of a number
 
-unfoldable pub makeNumber : Params → ℕ
-makeNumber p = firstOf (row 1 (not (inRange p)) ∷ [])
+unfoldable pub makeRows : Params → List Row
+makeRows p = row 1 (not (inRange p)) ∷ []
 
-unfoldable pub sheetNumber : ℕ → ℕ
-sheetNumber k = firstOf (row 1 (not (ltb k (length sheets))) ∷ [])
+unfoldable pub sheetRows : ℕ → List Row
+sheetRows k = row 1 (not (ltb k (length sheets))) ∷ []
+
+abbrev pub makeNumber : Params → ℕ
+makeNumber p = firstOf (makeRows p)
+
+abbrev pub sheetNumber : ℕ → ℕ
+sheetNumber k = firstOf (sheetRows k)
 
 -- number, place and parameters of each case of the answer
 unfoldable pub madeNumber : Made → ℕ
@@ -127,34 +131,34 @@ pub sheet-values : (k : ℕ) {r : Made} → r ≡ madeSheet k → Values (sheetN
 unfolding madeSheet
 sheet-values k e = values (sheetNumber k) (sheet k) e
 
--- the number is the lowest that applies, and 0 exactly when none does
-pub make-lowest : (p : Params) → Lowest (row 1 (not (inRange p)) ∷ []) (madeNumber (made p))
-unfolding made makeNumber rising
-make-lowest p = rw answered-number (first-lowest (row 1 (not (inRange p)) ∷ []) 0 refl)
+-- the number is the first of the order that applies, and 0 exactly when none does
+pub make-foremost : (p : Params) → Foremost (makeRows p) (madeNumber (made p))
+unfolding made makeRows positionIn order position inOrder
+make-foremost p = rw answered-number (first-foremost 0 (makeRows p) refl)
 
-pub sheet-lowest : (k : ℕ) → Lowest (row 1 (not (ltb k (length sheets))) ∷ []) (madeNumber (madeSheet k))
-unfolding madeSheet sheetNumber rising
-sheet-lowest k = rw answered-number (first-lowest (row 1 (not (ltb k (length sheets))) ∷ []) 0 refl)
+pub sheet-foremost : (k : ℕ) → Foremost (sheetRows k) (madeNumber (madeSheet k))
+unfolding madeSheet sheetRows positionIn order position inOrder
+sheet-foremost k = rw answered-number (first-foremost 0 (sheetRows k) refl)
 
 -- the maker's two answers, and the sheet's
 pub made-set : (p : Params) → inRange p ≡ true → made p ≡ Set p
-unfolding made makeNumber answered firstOf doneOr
-made-set p e = rw e
+unfolding made makeRows answered doneOr
+made-set p e = rw (first-last, e)
 
 pub made-refused : (p : Params) → inRange p ≡ false → made p ≡ Refused (refused 1 0)
-unfolding made makeNumber answered firstOf doneOr
-made-refused p e = rw e
+unfolding made makeRows answered doneOr
+made-refused p e = rw (first-last, e)
 
-sheet-number : (k : ℕ) {t : Bool} → ltb k 6 ≡ t → sheetNumber k ≡ firstOf (row 1 (not t) ∷ [])
-unfolding sheetNumber sheets sheetTable
-sheet-number k e = rw e
+sheet-number : (k : ℕ) {t : Bool} → ltb k 6 ≡ t → sheetNumber k ≡ cond (not t) 1 0
+unfolding sheetRows sheets sheetTable
+sheet-number k e = first-last 1 (not (ltb k 6)) ∙ rw e
 
 pub sheet-set : (k : ℕ) → k < 6 → madeSheet k ≡ Set (ofRow (getD sheetTable k []))
-unfolding madeSheet answered firstOf doneOr sheet sheets
+unfolding madeSheet answered doneOr sheet sheets
 sheet-set k h = rw (sheet-number k (lt-ltb k 6 h)) (ap Set (List·getD-map ofRow sheetTable k []))
 
 pub sheet-refused : (k : ℕ) → 6 ≤ k → madeSheet k ≡ Refused (refused 1 0)
-unfolding madeSheet answered firstOf doneOr
+unfolding madeSheet answered doneOr
 sheet-refused k h = rw (sheet-number k (le-ltb k 6 h))
 
 -- ---- the ranges as facts

@@ -1,6 +1,7 @@
--- Document 01, *Refusal numbers*, for the calls on keys and ciphertexts: for each call its rows in the table's order, the
--- answer, and what each buffer that it writes holds at exit. Of a buffer that a call only writes, a result or scratch, the rows
--- and the answer take the length alone: it may arrive with anything in it.
+-- Document 01, *Refusal numbers*, for the calls on keys and ciphertexts: for each call what it is lent, its rows in the table's order, the answer, what each
+-- buffer that it writes holds at exit, and the promise of these, which the contract of its function cites. Of a buffer that a call only writes, a result or
+-- scratch, the rows take the length alone: it may arrive with anything in it.
+use mathlib.Core.Path.{_≡_}
 use mathlib.Core.Bool.{Bool, not, _||_}
 use mathlib.Core.List.{List, [], _∷_}
 use Prim.Native.Nat.{ℕ, _*_, _-_}
@@ -10,8 +11,8 @@ use lib.ListN.{length, replicate}
 use Rattle.whole.specs.Lists.{every, cut}
 use Rattle.refusal.specs.declared.Refusal.{Refusal}
 use Rattle.refusal.specs.declared.Params.{Params}
-use Rattle.refusal.specs.First.{Row, row, firstOf, doneOr}
-use Rattle.refusal.specs.Parameters.{inRange, refused, sheet}
+use Rattle.refusal.specs.First.{Row, row, firstOf, placeOf, answerOf, doneOr}
+use Rattle.refusal.specs.Parameters.{inRange, sheet}
 use Rattle.scheme.specs.declared.Bounded.{Bounded}
 use Rattle.scheme.specs.declared.Decrypted.{Decrypted}
 use Rattle.scheme.specs.Arithmetic.{isResidue, isKey, encrypt, decrypt, XOR, XOR-bound, NOT, NOT-bound, switchingKey, AND, AND-bound, fits}
@@ -46,157 +47,260 @@ exceeds limit es = not (every (λ e. leb (natAbs e) limit) es)
 unfoldable pub overBudget : ℕ → ℕ → Bool
 overBudget q B = not (fits q B)
 
--- ---- the answers
+-- ---- the answers: number and place of the first row that applies, and on a refusal 0 in the other number
 
-abbrev pub bounded : ℕ → ℕ → Bounded
-bounded k B = record { number = k; place = 0; bound = doneOr k B 0 }
+abbrev pub bounded : List Row → ℕ → Bounded
+bounded rows B = record { number = firstOf rows; place = placeOf rows; bound = doneOr (firstOf rows) B 0 }
 
-abbrev pub decrypted : ℕ → ℕ → Decrypted
-decrypted k b = record { number = k; place = 0; bit = doneOr k b 0 }
+abbrev pub decrypted : List Row → ℕ → Decrypted
+decrypted rows b = record { number = firstOf rows; place = placeOf rows; bit = doneOr (firstOf rows) b 0 }
 
--- ---- key check
+-- done: no refusal, and the bound or the bit
+abbrev pub states : ℕ → Bounded
+states B = record { number = 0; place = 0; bound = B }
 
-unfoldable pub keyCheckRows : Params → List ℤ → List Row
-keyCheckRows p s =
-    row 1 (badParams p)
-    ∷ row 3 (differs (length s) (p .n))
-    ∷ row 4 (badKey (p .l) s)
+abbrev pub decryptsTo : ℕ → Decrypted
+decryptsTo b = record { number = 0; place = 0; bit = b }
+
+-- ---- key check: the parameters and the key
+
+pub record KeyCheckLoans : Type 0 where
+  pub p : Params
+  pub key : List ℤ
+
+abbrev pub keyCheckLoans : Params → List ℤ → KeyCheckLoans
+keyCheckLoans p s = record { p = p; key = s }
+
+unfoldable pub keyCheckRows : KeyCheckLoans → List Row
+keyCheckRows a =
+    row 1 (badParams (a .p))
+    ∷ row 3 (differs (length (a .key)) (a .p .n))
+    ∷ row 4 (badKey (a .p .l) (a .key))
     ∷ []
 
-unfoldable pub keyCheckAnswer : Params → List ℤ → Refusal
-keyCheckAnswer p s = refused (firstOf (keyCheckRows p s)) 0
+unfoldable pub keyCheckAnswer : KeyCheckLoans → Refusal
+keyCheckAnswer a = answerOf (keyCheckRows a)
+
+pub record KeyCheckPromise (a : KeyCheckLoans) (r : Refusal) : Type 0 where
+  pub answer : r ≡ keyCheckAnswer a
 
 -- ---- switching key maker: the key, the masks, the errors, and the buffer for the switching key
 
-unfoldable pub makeKeyRows : Params → List ℤ → List ℤ → List ℤ → ℕ → List Row
-makeKeyRows p s masks f result =
-    row 1 (badParams p)
-    ∷ row 3 (differs (length s) (p .n)
-    || differs (length masks) ((p .n - 1) * (p .n * p .n))
-    || differs (length f) (p .n * p .n)
-    || differs result (p .n * (p .n * p .n)))
-    ∷ row 4 (badKey (p .l) s)
-    ∷ row 6 (outside (p .q * p .q) masks)
-    ∷ row 7 (exceeds (p .f) f)
+pub record MakeKeyLoans : Type 0 where
+  pub p : Params
+  pub key : List ℤ
+  pub masks : List ℤ
+  pub errors : List ℤ
+  pub result : List ℤ
+
+abbrev pub makeKeyLoans : Params → List ℤ → List ℤ → List ℤ → List ℤ → MakeKeyLoans
+makeKeyLoans p s masks f result = record { p = p; key = s; masks = masks; errors = f; result = result }
+
+unfoldable pub makeKeyRows : MakeKeyLoans → List Row
+makeKeyRows a =
+    let n = a .p .n in
+    row 1 (badParams (a .p))
+    ∷ row 3 (differs (length (a .key)) n
+    || differs (length (a .masks)) ((n - 1) * (n * n))
+    || differs (length (a .errors)) (n * n)
+    || differs (length (a .result)) (n * (n * n)))
+    ∷ row 4 (badKey (a .p .l) (a .key))
+    ∷ row 6 (outside (a .p .q * a .p .q) (a .masks))
+    ∷ row 7 (exceeds (a .p .f) (a .errors))
     ∷ []
 
-unfoldable pub makeKeyAnswer : Params → List ℤ → List ℤ → List ℤ → ℕ → Refusal
-makeKeyAnswer p s masks f result = refused (firstOf (makeKeyRows p s masks f result)) 0
+unfoldable pub makeKeyAnswer : MakeKeyLoans → Refusal
+makeKeyAnswer a = answerOf (makeKeyRows a)
 
-unfoldable pub makeKeyResult : Params → List ℤ → List ℤ → List ℤ → List ℤ → List ℤ
-makeKeyResult p s masks f out =
-    doneOr (firstOf (makeKeyRows p s masks f (length out))) (switchingKey (p .n) (p .q) s masks f) out
+unfoldable pub makeKeyResult : MakeKeyLoans → List ℤ
+makeKeyResult a = doneOr (firstOf (makeKeyRows a)) (switchingKey (a .p .n) (a .p .q) (a .key) (a .masks) (a .errors)) (a .result)
 
--- ---- bench key maker, and its check call: the switching key of sheet 1, as four rows of sixteen
+pub record MakeKeyPromise (a : MakeKeyLoans) (r : Refusal) (result : List ℤ) : Type 0 where
+  pub answer : r ≡ makeKeyAnswer a
+  pub result-left : result ≡ makeKeyResult a
 
-abbrev pub benchSheet : Params
-benchSheet = sheet 1
+-- ---- bench key maker, and its check call: what the maker answers, and leaves in a buffer of zeros, on sheet 1; the key as four rows of sixteen
 
-unfoldable pub benchRows : List ℤ → List ℤ → List ℤ → List Row
-benchRows s masks f =
-    row 3 (differs (length s) 4 || differs (length masks) (3 * 16) || differs (length f) 16)
-    ∷ row 4 (badKey (benchSheet .l) s)
-    ∷ row 6 (outside (benchSheet .q * benchSheet .q) masks)
-    ∷ row 7 (exceeds (benchSheet .f) f)
-    ∷ []
+abbrev pub benchLoans : List ℤ → List ℤ → List ℤ → MakeKeyLoans
+benchLoans s masks f = makeKeyLoans (sheet 1) s masks f (replicate 64 (pos 0))
 
 unfoldable pub benchCheckAnswer : List ℤ → List ℤ → List ℤ → Refusal
-benchCheckAnswer s masks f = refused (firstOf (benchRows s masks f)) 0
+benchCheckAnswer s masks f = makeKeyAnswer (benchLoans s masks f)
 
 unfoldable pub benchKey : List ℤ → List ℤ → List ℤ → List (List ℤ)
-benchKey s masks f =
-    doneOr (firstOf (benchRows s masks f))
-    (cut 16 4 (switchingKey 4 (benchSheet .q) s masks f))
-    (replicate 4 (replicate 16 (pos 0)))
+benchKey s masks f = cut 16 4 (makeKeyResult (benchLoans s masks f))
+
+pub record BenchCheckPromise (s masks f : List ℤ) (r : Refusal) : Type 0 where
+  pub answer : r ≡ benchCheckAnswer s masks f
+
+pub record BenchKeyPromise (s masks f : List ℤ) (r : List (List ℤ)) : Type 0 where
+  pub answer : r ≡ benchKey s masks f
 
 -- ---- encrypt: the key, the bit, the mask, the error, and the buffer for the ciphertext
 
-unfoldable pub encryptRows : Params → List ℤ → ℕ → List ℤ → ℤ → ℕ → List Row
-encryptRows p s b a e result =
-    row 1 (badParams p)
-    ∷ row 3 (differs (length s) (p .n) || differs (length a) (p .n - 1) || differs result (p .n))
-    ∷ row 4 (badKey (p .l) s)
-    ∷ row 5 (badBit b)
-    ∷ row 6 (outside (p .q) a)
-    ∷ row 7 (exceeds (p .e) (e ∷ []))
+pub record EncryptLoans : Type 0 where
+  pub p : Params
+  pub key : List ℤ
+  pub bit : ℕ
+  pub mask : List ℤ
+  pub error : ℤ
+  pub result : List ℤ
+
+abbrev pub encryptLoans : Params → List ℤ → ℕ → List ℤ → ℤ → List ℤ → EncryptLoans
+encryptLoans p s b a e result = record { p = p; key = s; bit = b; mask = a; error = e; result = result }
+
+unfoldable pub encryptRows : EncryptLoans → List Row
+encryptRows a =
+    row 1 (badParams (a .p))
+    ∷ row 3 (differs (length (a .key)) (a .p .n) || differs (length (a .mask)) (a .p .n - 1) || differs (length (a .result)) (a .p .n))
+    ∷ row 4 (badKey (a .p .l) (a .key))
+    ∷ row 5 (badBit (a .bit))
+    ∷ row 6 (outside (a .p .q) (a .mask))
+    ∷ row 7 (exceeds (a .p .e) (a .error ∷ []))
     ∷ []
 
 -- the stated bound is E, never |e|
-unfoldable pub encryptAnswer : Params → List ℤ → ℕ → List ℤ → ℤ → ℕ → Bounded
-encryptAnswer p s b a e result = bounded (firstOf (encryptRows p s b a e result)) (p .e)
+unfoldable pub encryptAnswer : EncryptLoans → Bounded
+encryptAnswer a = bounded (encryptRows a) (a .p .e)
 
-unfoldable pub encryptResult : Params → List ℤ → ℕ → List ℤ → ℤ → List ℤ → List ℤ
-encryptResult p s b a e out = doneOr (firstOf (encryptRows p s b a e (length out))) (encrypt (p .q) s b a e) out
+unfoldable pub encryptResult : EncryptLoans → List ℤ
+encryptResult a = doneOr (firstOf (encryptRows a)) (encrypt (a .p .q) (a .key) (a .bit) (a .mask) (a .error)) (a .result)
+
+pub record EncryptPromise (a : EncryptLoans) (r : Bounded) (result : List ℤ) : Type 0 where
+  pub answer : r ≡ encryptAnswer a
+  pub result-left : result ≡ encryptResult a
 
 -- ---- decrypt: the key and the ciphertext
 
-unfoldable pub decryptRows : Params → List ℤ → List ℤ → List Row
-decryptRows p s c =
-    row 1 (badParams p)
-    ∷ row 3 (differs (length s) (p .n) || differs (length c) (p .n))
-    ∷ row 4 (badKey (p .l) s)
-    ∷ row 6 (outside (p .q) c)
+pub record DecryptLoans : Type 0 where
+  pub p : Params
+  pub key : List ℤ
+  pub ciphertext : List ℤ
+
+abbrev pub decryptLoans : Params → List ℤ → List ℤ → DecryptLoans
+decryptLoans p s c = record { p = p; key = s; ciphertext = c }
+
+unfoldable pub decryptRows : DecryptLoans → List Row
+decryptRows a =
+    row 1 (badParams (a .p))
+    ∷ row 3 (differs (length (a .key)) (a .p .n) || differs (length (a .ciphertext)) (a .p .n))
+    ∷ row 4 (badKey (a .p .l) (a .key))
+    ∷ row 6 (outside (a .p .q) (a .ciphertext))
     ∷ []
 
-unfoldable pub decryptAnswer : Params → List ℤ → List ℤ → Decrypted
-decryptAnswer p s c = decrypted (firstOf (decryptRows p s c)) (decrypt (p .q) s c)
+unfoldable pub decryptAnswer : DecryptLoans → Decrypted
+decryptAnswer a = decrypted (decryptRows a) (decrypt (a .p .q) (a .key) (a .ciphertext))
+
+pub record DecryptPromise (a : DecryptLoans) (r : Decrypted) : Type 0 where
+  pub answer : r ≡ decryptAnswer a
 
 -- ---- XOR: two ciphertexts with their bounds, and the buffer for the result
 
-unfoldable pub xorRows : Params → List ℤ → ℕ → List ℤ → ℕ → ℕ → List Row
-xorRows p c B1 d B2 result =
-    row 1 (badParams p)
-    ∷ row 3 (differs (length c) (p .n) || differs (length d) (p .n) || differs result (p .n))
-    ∷ row 6 (outside (p .q) c || outside (p .q) d)
-    ∷ row 8 (overBudget (p .q) B1 || overBudget (p .q) B2)
-    ∷ row 10 (overBudget (p .q) (XOR-bound B1 B2))
+pub record XorLoans : Type 0 where
+  pub p : Params
+  pub left : List ℤ
+  pub left-bound : ℕ
+  pub right : List ℤ
+  pub right-bound : ℕ
+  pub result : List ℤ
+
+abbrev pub xorLoans : Params → List ℤ → ℕ → List ℤ → ℕ → List ℤ → XorLoans
+xorLoans p c B1 d B2 result = record { p = p; left = c; left-bound = B1; right = d; right-bound = B2; result = result }
+
+unfoldable pub xorRows : XorLoans → List Row
+xorRows a =
+    row 1 (badParams (a .p))
+    ∷ row 3 (differs (length (a .left)) (a .p .n) || differs (length (a .right)) (a .p .n) || differs (length (a .result)) (a .p .n))
+    ∷ row 6 (outside (a .p .q) (a .left) || outside (a .p .q) (a .right))
+    ∷ row 8 (overBudget (a .p .q) (a .left-bound) || overBudget (a .p .q) (a .right-bound))
+    ∷ row 10 (overBudget (a .p .q) (XOR-bound (a .left-bound) (a .right-bound)))
     ∷ []
 
-unfoldable pub xorAnswer : Params → List ℤ → ℕ → List ℤ → ℕ → ℕ → Bounded
-xorAnswer p c B1 d B2 result = bounded (firstOf (xorRows p c B1 d B2 result)) (XOR-bound B1 B2)
+unfoldable pub xorAnswer : XorLoans → Bounded
+xorAnswer a = bounded (xorRows a) (XOR-bound (a .left-bound) (a .right-bound))
 
-unfoldable pub xorResult : Params → List ℤ → ℕ → List ℤ → ℕ → List ℤ → List ℤ
-xorResult p c B1 d B2 out = doneOr (firstOf (xorRows p c B1 d B2 (length out))) (XOR (p .q) c d) out
+unfoldable pub xorResult : XorLoans → List ℤ
+xorResult a = doneOr (firstOf (xorRows a)) (XOR (a .p .q) (a .left) (a .right)) (a .result)
+
+pub record XorPromise (a : XorLoans) (r : Bounded) (result : List ℤ) : Type 0 where
+  pub answer : r ≡ xorAnswer a
+  pub result-left : result ≡ xorResult a
 
 -- ---- NOT: a ciphertext with its bound, and the buffer for the result
 
-unfoldable pub notRows : Params → List ℤ → ℕ → ℕ → List Row
-notRows p c B result =
-    row 1 (badParams p)
-    ∷ row 3 (differs (length c) (p .n) || differs result (p .n))
-    ∷ row 6 (outside (p .q) c)
-    ∷ row 8 (overBudget (p .q) B)
+pub record NotLoans : Type 0 where
+  pub p : Params
+  pub ciphertext : List ℤ
+  pub bound : ℕ
+  pub result : List ℤ
+
+abbrev pub notLoans : Params → List ℤ → ℕ → List ℤ → NotLoans
+notLoans p c B result = record { p = p; ciphertext = c; bound = B; result = result }
+
+unfoldable pub notRows : NotLoans → List Row
+notRows a =
+    row 1 (badParams (a .p))
+    ∷ row 3 (differs (length (a .ciphertext)) (a .p .n) || differs (length (a .result)) (a .p .n))
+    ∷ row 6 (outside (a .p .q) (a .ciphertext))
+    ∷ row 8 (overBudget (a .p .q) (a .bound))
     ∷ []
 
-unfoldable pub notAnswer : Params → List ℤ → ℕ → ℕ → Bounded
-notAnswer p c B result = bounded (firstOf (notRows p c B result)) (NOT-bound B)
+unfoldable pub notAnswer : NotLoans → Bounded
+notAnswer a = bounded (notRows a) (NOT-bound (a .bound))
 
-unfoldable pub notResult : Params → List ℤ → ℕ → List ℤ → List ℤ
-notResult p c B out = doneOr (firstOf (notRows p c B (length out))) (NOT (p .q) c) out
+unfoldable pub notResult : NotLoans → List ℤ
+notResult a = doneOr (firstOf (notRows a)) (NOT (a .p .q) (a .ciphertext)) (a .result)
+
+pub record NotPromise (a : NotLoans) (r : Bounded) (result : List ℤ) : Type 0 where
+  pub answer : r ≡ notAnswer a
+  pub result-left : result ≡ notResult a
 
 -- ---- AND: two ciphertexts with their bounds, the switching key, scratch, and the buffer for the result
 
-unfoldable pub andRows : Params → List ℤ → ℕ → List ℤ → ℕ → List ℤ → ℕ → ℕ → List Row
-andRows p c B1 d B2 W scratch result =
-    row 1 (badParams p)
-    ∷ row 3 (differs (length c) (p .n)
-    || differs (length d) (p .n)
-    || differs (length W) (p .n * (p .n * p .n))
-    || differs scratch (p .n * p .n)
-    || differs result (p .n))
-    ∷ row 6 (outside (p .q) c || outside (p .q) d || outside (p .q * p .q) W)
-    ∷ row 8 (overBudget (p .q) B1 || overBudget (p .q) B2)
-    ∷ row 10 (overBudget (p .q) (AND-bound (p .n) (p .q) (p .l) (p .f) B1 B2))
+pub record AndLoans : Type 0 where
+  pub p : Params
+  pub left : List ℤ
+  pub left-bound : ℕ
+  pub right : List ℤ
+  pub right-bound : ℕ
+  pub key : List ℤ
+  pub scratch : List ℤ
+  pub result : List ℤ
+
+abbrev pub andLoans : Params → List ℤ → ℕ → List ℤ → ℕ → List ℤ → List ℤ → List ℤ → AndLoans
+andLoans p c B1 d B2 W scratch result =
+    record { p = p; left = c; left-bound = B1; right = d; right-bound = B2; key = W; scratch = scratch; result = result }
+
+-- the bound by the formula
+abbrev pub andBound : AndLoans → ℕ
+andBound a = AND-bound (a .p .n) (a .p .q) (a .p .l) (a .p .f) (a .left-bound) (a .right-bound)
+
+unfoldable pub andRows : AndLoans → List Row
+andRows a =
+    let n = a .p .n in
+    let q = a .p .q in
+    row 1 (badParams (a .p))
+    ∷ row 3 (differs (length (a .left)) n
+    || differs (length (a .right)) n
+    || differs (length (a .key)) (n * (n * n))
+    || differs (length (a .scratch)) (n * n)
+    || differs (length (a .result)) n)
+    ∷ row 6 (outside q (a .left) || outside q (a .right) || outside (q * q) (a .key))
+    ∷ row 8 (overBudget q (a .left-bound) || overBudget q (a .right-bound))
+    ∷ row 10 (overBudget q (andBound a))
     ∷ []
 
-unfoldable pub andAnswer : Params → List ℤ → ℕ → List ℤ → ℕ → List ℤ → ℕ → ℕ → Bounded
-andAnswer p c B1 d B2 W scratch result =
-    bounded (firstOf (andRows p c B1 d B2 W scratch result)) (AND-bound (p .n) (p .q) (p .l) (p .f) B1 B2)
+unfoldable pub andAnswer : AndLoans → Bounded
+andAnswer a = bounded (andRows a) (andBound a)
 
-unfoldable pub andResult : Params → List ℤ → ℕ → List ℤ → ℕ → List ℤ → List ℤ → List ℤ → List ℤ
-andResult p c B1 d B2 W scratch out = doneOr (firstOf (andRows p c B1 d B2 W (length scratch) (length out))) (AND (p .n) (p .q) W c d) out
+unfoldable pub andResult : AndLoans → List ℤ
+andResult a = doneOr (firstOf (andRows a)) (AND (a .p .n) (a .p .q) (a .key) (a .left) (a .right)) (a .result)
 
 -- scratch is all zero after success
-unfoldable pub andScratch : Params → List ℤ → ℕ → List ℤ → ℕ → List ℤ → List ℤ → List ℤ → List ℤ
-andScratch p c B1 d B2 W scratch out =
-    doneOr (firstOf (andRows p c B1 d B2 W (length scratch) (length out))) (replicate (p .n * p .n) (pos 0)) scratch
+unfoldable pub andScratch : AndLoans → List ℤ
+andScratch a = doneOr (firstOf (andRows a)) (replicate (a .p .n * a .p .n) (pos 0)) (a .scratch)
+
+pub record AndPromise (a : AndLoans) (r : Bounded) (result scratch : List ℤ) : Type 0 where
+  pub answer : r ≡ andAnswer a
+  pub result-left : result ≡ andResult a
+  pub scratch-left : scratch ≡ andScratch a

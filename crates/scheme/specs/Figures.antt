@@ -8,10 +8,10 @@ use Rattle.whole.specs.Round.{round}
 use Rattle.whole.specs.Centred.{centred, rest}
 use Rattle.whole.specs.Lists.{every, tabulate, grid, cut}
 use Rattle.whole.specs.Inner.{inner, column}
-use Rattle.refusal.specs.First.{firstOf}
+use Rattle.refusal.specs.First.{someTrue, firstOf}
 use Rattle.refusal.specs.Parameters.{sheet, sheets, sheetTable, inRange}
 use Rattle.scheme.specs.Arithmetic.{isResidue, encrypt, decrypt, noise, XOR, NOT, tensorEntry, tensor, keyRows, maskColumn, rowZeroEntry, switchingKey, switchEntry, switch, AND-bound, fits}
-use Rattle.scheme.specs.Calls.{badParams, differs, outside, overBudget, andRows}
+use Rattle.scheme.specs.Calls.{badParams, differs, outside, overBudget, andLoans, andRows}
 
 -- what a definition computes, beside what document 01 states
 pub record Figure : Type 0 where
@@ -46,7 +46,7 @@ switchingKey₀ = switchingKey 2 q s (four (pos 100) (− 100) (pos 7) (pos 0)) 
 -- the number that AND answers on sheet 1 for two zero ciphertexts with the bounds B1 and B2, and a zero switching key
 abbrev andNumber : ℕ → ℕ → ℕ
 andNumber B1 B2 =
-    firstOf (andRows (sheet 1) (replicate 4 (pos 0)) B1 (replicate 4 (pos 0)) B2 (replicate 64 (pos 0)) 16 4)
+    firstOf (andRows (andLoans (sheet 1) (replicate 4 (pos 0)) B1 (replicate 4 (pos 0)) B2 (replicate 64 (pos 0)) (replicate 16 (pos 0)) (replicate 4 (pos 0))))
 
 pub figures : List Figure
 figures =
@@ -89,5 +89,5 @@ figures =
     ∷ []
 
 pub figures-hold : map (λ f. f .computed) figures ≡ map (λ f. f .stated) figures
-unfolding figures encrypt decrypt noise XOR NOT tensor tensorEntry switchingKey rowZeroEntry maskColumn keyRows switch switchEntry AND-bound fits isResidue firstOf centred rest round zipWith flatMap grid tabulate cut column inner andRows badParams differs outside overBudget inRange sheet sheets sheetTable every
+unfolding figures encrypt decrypt noise XOR NOT tensor tensorEntry switchingKey rowZeroEntry maskColumn keyRows switch switchEntry AND-bound fits isResidue someTrue firstOf centred rest round zipWith flatMap grid tabulate cut column inner andRows badParams differs outside overBudget inRange sheet sheets sheetTable every
 figures-hold = refl

@@ -9,7 +9,7 @@ pub mod Figures
 pub mod Refusals
 pub mod Ties
 pub mod Wording
-pub mod Lowest
+pub mod Foremost
 pub mod Slips
 pub mod Unique
 pub mod Witnesses
