@@ -12,6 +12,7 @@ pub mod Wires
 pub mod Answers
 pub mod Passed
 pub mod Foremost
+pub mod Exact
 pub mod Unread
 pub mod Example
 pub mod Refusals

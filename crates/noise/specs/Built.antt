@@ -1,6 +1,6 @@
 -- What it says of a list W that it is a switching key built for s with errors within F, and that this is exactly what the maker
 -- writes: from s, any masks that are residues of q², and any errors fj of size at most F.
-use mathlib.Core.Path.{_≡_, sym, ap, ap₂, _∙_}
+use mathlib.Core.Path.{_≡_, refl, sym, ap, ap₂, _∙_}
 use mathlib.Core.Bool.{true}
 use mathlib.Core.List.{List, [], _∷_, _++_}
 use Prim.Native.Nat.{ℕ, zero, suc, _+_, _*_, _/_, _%_, _-_, _≤_, _<_}
@@ -9,13 +9,19 @@ use native.Mathlib.Omega.{arith}
 use lib.ListN.{length, getD, take, drop, length-append, length-drop, take-append-drop, List·getD-append}
 use lib.Seq.{getD-take}
 use lib.IntN.{ℤ, pos, _+ℤ_, _-ℤ_, _*ℤ_, natAbs}
-use Rattle.whole.specs.Tests.{and-both}
+use Rattle.whole.specs.Tests.{and-both, or-left, or-right}
 use Rattle.whole.specs.Laws.{one-*ℤ}
 use Rattle.whole.specs.Ring.{by-ring, quote}
 use Rattle.whole.specs.Centred.{centred, centred-le, centred-add}
 use Rattle.whole.specs.Lists.{tabulate, length-tabulate, getD-tabulate, tabulate-cong, tabulate-take, Each, each-getD, each-tabulate, every, every-append, every-getD, every-drop, each-every, cut}
 use Rattle.whole.specs.Inner.{inner, column}
+use Rattle.refusal.specs.declared.Refusal.{Refusal}
+use Rattle.refusal.specs.First.{firstOf, doneOr-done, Clear}
+use Rattle.refusal.specs.Order.{positionIn, order, position, inOrder, first-clear}
+use Rattle.refusal.specs.Parameters.{InRange}
 use Rattle.scheme.specs.Arithmetic.{isResidue, keyRows, maskColumn, rowZeroEntry, switchingKey}
+use Rattle.scheme.specs.Calls.{MakeKeyLoans, makeKeyRows, makeKeyAnswer, makeKeyResult, MakeKeyPromise}
+use Rattle.scheme.specs.Passed.{params-in-range, length-is, key-begins, entries-inside, errors-within}
 use Rattle.scheme.specs.Wording.{even-square, centred-residue, residue-centred, key-masks}
 
 -- the error of column j = u·n+v under s: what <s, column j> is beside q·su·sv, as a residue of q²
@@ -140,3 +146,25 @@ module _ (n q : ℕ) (s : List ℤ) (some : 0 < n) (h : 0 < q) (even : q ≡ 2 *
             rw (m .made, made-error masks (m .f) j)
             (le-trans (centred-le (q * q) (getD (m .f) j (pos 0)) (mul-le-mul h h)) (each-getD (m .f-small) j (pos 0) (rw (m .f-long) inside)));
       }
+
+-- ---- through the call: where the maker answers 0, what it left is built for the key that it was lent
+
+pub maker-builds : {a : MakeKeyLoans} {r : Refusal} {W : List ℤ} → MakeKeyPromise a r W → r .number ≡ 0 → BuiltFor (a .p .n) (a .p .q) (a .p .f) (a .key) W
+unfolding positionIn order position inOrder makeKeyRows makeKeyAnswer makeKeyResult
+maker-builds {a} {r} {W} promise none =
+    let done : firstOf (makeKeyRows a) ≡ 0 = sym (ap (λ (x : Refusal). x .number) (promise .answer)) ∙ none in
+    let clear : Clear (makeKeyRows a) = first-clear (makeKeyRows a) refl done in
+    let p = a .p in
+    let n : ℕ = p .n in
+    let range : InRange p = params-in-range p (clear .0 .0) in
+    let lengths = clear .1 .0 .0 in
+    made→built n (p .q) (a .key) (omega (arith, range .n-low)) (omega (arith, range .q-low)) (range .q-even) (key-begins (p .l) (a .key) (clear .1 .1 .0 .0)) (p .f) W
+    (record {
+      masks = a .masks;
+      masks-long = length-is (length (a .masks)) ((n - 1) * (n * n)) (search (or-left, or-right, lengths) depth 10);
+      masks-residues = entries-inside (p .q * p .q) (a .masks) (clear .1 .1 .1 .0 .0);
+      f = a .errors;
+      f-long = length-is (length (a .errors)) (n * n) (search (or-left, or-right, lengths) depth 10);
+      f-small = errors-within (p .f) (a .errors) (clear .1 .1 .1 .1 .0 .0);
+      made = promise .result-left ∙ doneOr-done _ (a .result) done;
+    })

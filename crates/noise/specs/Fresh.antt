@@ -1,44 +1,68 @@
--- Decrypting a fresh encryption gives back its bit, through the two calls: for every encryption that is accepted, decryption of what it
--- wrote under the same key answers 0 and the bit.
-use mathlib.Core.Path.{_≡_, refl, ap, ap₂, _∙_}
-use mathlib.Core.Bool.{true, false, _||_}
+-- A fresh encryption is sound, with the bound E that it states, and decrypts to its bit: through the two calls, whatever key, bit, mask and error are lent, where
+-- encryption answers 0.
+use mathlib.Core.Path.{_≡_, refl, sym, ap, _∙_}
+use mathlib.Core.Bool.{false}
 use mathlib.Core.List.{List, [], _∷_}
 use Prim.Native.Nat.{ℕ, _-_, _≤_, _<_}
 use native.Mathlib.Omega.{arith}
 use lib.IntN.{ℤ, pos, natAbs}
 use lib.ListN.{length}
-use borrow.Author.Tests.{eq-eqb}
 use Rattle.whole.specs.Tests.{or-left, or-right}
-use Rattle.whole.specs.Lists.{every, each-getD}
-use Rattle.refusal.specs.declared.Params.{Params}
-use Rattle.refusal.specs.First.{Clear, firstOf, first-clear, doneOr-done, rising}
+use Rattle.whole.specs.Lists.{each-getD}
+use Rattle.refusal.specs.First.{Clear, firstOf, doneOr-done}
+use Rattle.refusal.specs.Order.{positionIn, order, position, inOrder, first-clear}
 use Rattle.refusal.specs.Parameters.{InRange}
-use Rattle.scheme.specs.Arithmetic.{isResidue, encrypt}
-use Rattle.scheme.specs.Calls.{badParams, differs, badKey, outside, encryptRows, encryptResult, decryptRows, decryptAnswer, decrypted}
+use Rattle.scheme.specs.declared.Bounded.{Bounded}
+use Rattle.scheme.specs.declared.Decrypted.{Decrypted}
+use Rattle.scheme.specs.Arithmetic.{encrypt}
+use Rattle.scheme.specs.Calls.{differs, EncryptLoans, encryptRows, encryptAnswer, encryptResult, EncryptPromise, decryptLoans, DecryptPromise, decryptsTo}
 use Rattle.scheme.specs.Passed.{params-in-range, length-is, key-begins, bit-within, entries-inside, errors-within}
-use Rattle.noise.specs.Gates.{decrypt-fresh, length-encrypt, encrypt-residues}
+use Rattle.noise.specs.Gates.{encrypt-noise, length-encrypt, encrypt-residues}
+use Rattle.noise.specs.Sound.{KeyFits, Sound, sound-decrypts}
 
--- a ciphertext whose length is right and whose entries are residues is decrypted, where the key fits
-pub decrypt-accepts : (p : Params) (s c : List ℤ) → badParams p ≡ false → differs (length s) (p .n) ≡ false → length c ≡ p .n → badKey (p .l) s ≡ false
-    → every (isResidue (p .q)) c ≡ true → firstOf (decryptRows p s c) ≡ 0
-unfolding firstOf decryptRows differs outside
-decrypt-accepts p s c params key-long long key residues = simp (params, key-long, eq-eqb (length c) (p .n) long, key, residues)
+-- what follows where encryption answers 0
+pub record Fresh (a : EncryptLoans) (r : Bounded) (c : List ℤ) : Type 0 where
+  pub key : KeyFits (a .p) (a .key)
+  -- it states E
+  pub states : r .bound ≡ a .p .e
+  pub sound : Sound (a .p) (a .key) (a .bit) (a .p .e) c
 
-pub fresh-decrypts : (p : Params) (s : List ℤ) (b : ℕ) (a : List ℤ) (e : ℤ) (out : List ℤ)
-    → firstOf (encryptRows p s b a e (length out)) ≡ 0 → decryptAnswer p s (encryptResult p s b a e out) ≡ decrypted 0 b
-unfolding encryptRows encryptResult decryptAnswer rising
-fresh-decrypts p s b a e out accepted =
-    let clear : Clear (encryptRows p s b a e (length out)) = first-clear (encryptRows p s b a e (length out)) 0 refl accepted in
-    let range : InRange p = params-in-range p (clear .0) in
+accepted-sound : (a : EncryptLoans) → firstOf (encryptRows a) ≡ 0
+    → KeyFits (a .p) (a .key) × Sound (a .p) (a .key) (a .bit) (a .p .e) (encrypt (a .p .q) (a .key) (a .bit) (a .mask) (a .error))
+unfolding positionIn order position inOrder encryptRows
+accepted-sound a done =
+    let clear : Clear (encryptRows a) = first-clear (encryptRows a) refl done in
+    let p = a .p in
+    let s : List ℤ = a .key in
+    let range : InRange p = params-in-range p (clear .0 .0) in
     let positive : 0 < p .q = omega (arith, range .q-low) in
-    let lengths : (differs (length s) (p .n) || differs (length a) (p .n - 1)) ≡ false = or-left _ _ (clear .1 .0) in
-    let mask-long : length a ≡ p .n - 1 = length-is (length a) (p .n - 1) (or-right (differs (length s) (p .n)) _ lengths) in
-    let key : badKey (p .l) s ≡ false = clear .1 .1 .0 in
-    let small : natAbs e ≤ p .e = each-getD (errors-within (p .e) (e ∷ []) (clear .1 .1 .1 .1 .1 .0)) 0 (pos 0) (omega arith) in
-    let c : List ℤ = encrypt (p .q) s b a e in
-    let long : length c ≡ p .n = omega (arith, length-encrypt (p .q) s b a e, range .n-low) in
-    let residues : every (isResidue (p .q)) c ≡ true = encrypt-residues (p .q) s b a e positive (range .q-even) (entries-inside (p .q) a (clear .1 .1 .1 .1 .0)) in
-    ap (decryptAnswer p s) (doneOr-done c out accepted)
-    ∙ ap₂ decrypted
-    (decrypt-accepts p s c (clear .0) (or-left _ _ lengths) long key residues)
-    (decrypt-fresh (p .q) s b a e positive (range .q-even) (key-begins (p .l) s key) (bit-within b (clear .1 .1 .1 .0)) (omega (arith, range .e-fits)))
+    let lengths = or-left _ (differs (length (a .result)) (p .n)) (clear .1 .0 .0) in
+    let mask-long : length (a .mask) ≡ p .n - 1 = length-is (length (a .mask)) (p .n - 1) (or-right (differs (length s) (p .n)) _ lengths) in
+    let key = clear .1 .1 .0 .0 in
+    let small : natAbs (a .error) ≤ p .e = each-getD (errors-within (p .e) (a .error ∷ []) (clear .1 .1 .1 .1 .1 .0 .0)) 0 (pos 0) (omega arith) in (
+      record { params = clear .0 .0; long = or-left _ (differs (length (a .mask)) (p .n - 1)) lengths; key = key },
+      record {
+        bit = bit-within (a .bit) (clear .1 .1 .1 .0 .0);
+        long = omega (arith, length-encrypt (p .q) s (a .bit) (a .mask) (a .error), mask-long, range .n-low);
+        residues = encrypt-residues (p .q) s (a .bit) (a .mask) (a .error) positive (range .q-even) (entries-inside (p .q) (a .mask) (clear .1 .1 .1 .1 .0 .0));
+        quiet = omega (arith, encrypt-noise (p .q) s (a .bit) (a .mask) (a .error) positive (key-begins (p .l) s key), small);
+        fits = range .e-fits;
+      },
+    )
+
+pub fresh : {a : EncryptLoans} {r : Bounded} {c : List ℤ} → EncryptPromise a r c → r .number ≡ 0 → Fresh a r c
+unfolding encryptAnswer encryptResult
+fresh {a} {r} {c} promise none =
+    let done : firstOf (encryptRows a) ≡ 0 = sym (ap (λ (x : Bounded). x .number) (promise .answer)) ∙ none in
+    let (key, sound) = accepted-sound a done in
+    let written : c ≡ encrypt (a .p .q) (a .key) (a .bit) (a .mask) (a .error) = promise .result-left ∙ doneOr-done _ (a .result) done in
+    record {
+      key = key;
+      states = ap (λ (x : Bounded). x .bound) (promise .answer) ∙ doneOr-done (a .p .e) 0 done;
+      sound = rw written sound;
+    }
+
+-- **A fresh encryption decrypts to its bit**: encryption answered 0 and left c; then decryption of c under the same key answers 0 and the bit
+pub fresh-decrypts : {a : EncryptLoans} {r : Bounded} {c : List ℤ} {d : Decrypted} → EncryptPromise a r c → r .number ≡ 0
+    → DecryptPromise (decryptLoans (a .p) (a .key) c) d → d ≡ decryptsTo (a .bit)
+fresh-decrypts {a} promise none decrypted = let f = fresh promise none in sound-decrypts (a .p) (a .key) (f .key) (f .sound) decrypted
