@@ -1,7 +1,7 @@
 -- What it says of a list W that it is a switching key built for s with errors within F, and that this is exactly what the maker
 -- writes: from s, any masks that are residues of q², and any errors fj of size at most F.
 use mathlib.Core.Path.{_≡_, refl, sym, ap, ap₂, _∙_}
-use mathlib.Core.Bool.{true}
+use mathlib.Core.Bool.{true, false}
 use mathlib.Core.List.{List, [], _∷_, _++_}
 use Prim.Native.Nat.{ℕ, zero, suc, _+_, _*_, _/_, _%_, _-_, _≤_, _<_}
 use native.Mathlib.Nat.{add-mul, mul-le-mul, le-trans, not-suc-le-zero}
@@ -16,11 +16,11 @@ use Rattle.whole.specs.Centred.{centred, centred-le, centred-add}
 use Rattle.whole.specs.Lists.{tabulate, length-tabulate, getD-tabulate, tabulate-cong, tabulate-take, Each, each-getD, each-tabulate, every, every-append, every-getD, every-drop, each-every, cut}
 use Rattle.whole.specs.Inner.{inner, column}
 use Rattle.refusal.specs.declared.Refusal.{Refusal}
-use Rattle.refusal.specs.First.{firstOf, doneOr-done, Clear}
+use Rattle.refusal.specs.First.{firstOf, doneOr-done, Clear, first-row, first-none}
 use Rattle.refusal.specs.Order.{positionIn, order, position, inOrder, first-clear}
 use Rattle.refusal.specs.Parameters.{InRange}
 use Rattle.scheme.specs.Arithmetic.{isResidue, keyRows, maskColumn, rowZeroEntry, switchingKey}
-use Rattle.scheme.specs.Calls.{MakeKeyLoans, makeKeyRows, makeKeyAnswer, makeKeyResult, MakeKeyPromise}
+use Rattle.scheme.specs.Calls.{differs, keyCheckLoans, keyCheckRows, keyCheckAnswer, MakeKeyLoans, makeKeyRows, makeKeyAnswer, makeKeyResult, MakeKeyPromise}
 use Rattle.scheme.specs.Passed.{params-in-range, length-is, key-begins, entries-inside, errors-within}
 use Rattle.scheme.specs.Wording.{even-square, centred-residue, residue-centred, key-masks}
 
@@ -168,3 +168,13 @@ maker-builds {a} {r} {W} promise none =
       f-small = errors-within (p .f) (a .errors) (clear .1 .1 .1 .1 .0 .0);
       made = promise .result-left ∙ doneOr-done _ (a .result) done;
     })
+
+-- and that key passes the key check
+pub maker-key : {a : MakeKeyLoans} {r : Refusal} {W : List ℤ} → MakeKeyPromise a r W → r .number ≡ 0 → keyCheckAnswer (keyCheckLoans (a .p) (a .key)) .number ≡ 0
+unfolding positionIn order position inOrder makeKeyRows makeKeyAnswer keyCheckRows keyCheckAnswer
+maker-key {a} promise none =
+    let done : firstOf (makeKeyRows a) ≡ 0 = sym (ap (λ (x : Refusal). x .number) (promise .answer)) ∙ none in
+    let clear : Clear (makeKeyRows a) = first-clear (makeKeyRows a) refl done in
+    let lengths = clear .1 .0 .0 in
+    let long : differs (length (a .key)) (a .p .n) ≡ false = search (or-left, or-right, lengths) depth 10 in
+    simp (first-row, first-none, clear .0 .0, long, clear .1 .1 .0 .0)

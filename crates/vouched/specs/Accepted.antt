@@ -1,5 +1,5 @@
--- What it tells that evaluation answers 0, for each input and for each gate.
-use mathlib.Core.Path.{_≡_, refl, sym, ap, _∙_}
+-- What follows where evaluation answers 0, for each input and for each gate.
+use mathlib.Core.Path.{_≡_, sym, ap, _∙_}
 use mathlib.Core.Bool.{true, false}
 use mathlib.Core.List.{List, [], flatten}
 use Prim.Native.Nat.{ℕ, _+_, _*_, _≤_, _<_}
@@ -8,48 +8,47 @@ use native.Mathlib.Omega.{arith}
 use lib.IntN.{ℤ}
 use lib.ListN.{length, getD, take}
 use lib.Seq.{length-take-le}
-use borrow.Author.Tests.{not-false}
-use Rattle.whole.specs.Tests.{or-left, or-right}
 use Rattle.whole.specs.Lists.{every, every-getD, each-getD, cut, length-cut, each-cut, flatten-cut-take, flatten-every}
 use Rattle.refusal.specs.declared.Params.{Params}
-use Rattle.refusal.specs.First.{firstOf, first-clear, Clear, rising, someTrue, none-true}
+use Rattle.refusal.specs.First.{firstOf, someTrue, none-true, none-at}
 use Rattle.scheme.specs.Arithmetic.{isResidue, fits}
-use Rattle.scheme.specs.Calls.{outside}
-use Rattle.scheme.specs.Passed.{length-is, entries-inside, bound-fits, fits-below}
+use Rattle.scheme.specs.Passed.{bound-fits, fits-below}
 use Rattle.circuit.specs.declared.Gate.{Gate}
-use Rattle.circuit.specs.Circuits.{gateBound, boundsOf, wrongGates, overGates, gateRows, evaluateRows}
+use Rattle.circuit.specs.Circuits.{gateBound, boundsOf, wrongGates, overGates, gateRows, Circuit}
+use Rattle.circuit.specs.Plan.{PlanLoans, stated}
+use Rattle.circuit.specs.Evaluate.{EvaluateLoans, evaluateRows}
+use Rattle.circuit.specs.Passed.{EvaluateDone, evaluate-done}
 use Rattle.circuit.specs.Run.{run-gate}
 use Rattle.circuit.specs.Records.{Below, getD-wrongGates, getD-overGates, gate-below}
 
 -- the rows of evaluation, as facts
 pub record Accepted (p : Params) (inputs : ℕ) (gates : List Gate) (wires : List ℤ) (Bs : List ℕ) : Type 0 where
-  pub wires-long : length wires ≡ (inputs + length gates) * p .n
-  pub bounds-long : length Bs ≡ inputs + length gates
+  pub wires-long : inputs * p .n ≤ length wires
+  pub bounds-long : inputs ≤ length Bs
   pub residues : every (isResidue (p .q)) (take (inputs * p .n) wires) ≡ true
   pub inputs-fit : every (fits (p .q)) (take inputs Bs) ≡ true
   pub none-wrong : someTrue (wrongGates inputs gates) ≡ false
   pub none-over : someTrue (overGates p gates (take inputs Bs)) ≡ false
 
-pub accepted : (p : Params) (inputs : ℕ) (gates : List Gate) (wires : List ℤ) (Bs : List ℕ) (W : List ℤ) (scratch : ℕ)
-    → firstOf (evaluateRows p inputs gates wires Bs W scratch) ≡ 0 → Accepted p inputs gates wires Bs
-unfolding evaluateRows gateRows rising
-accepted p inputs gates wires Bs W scratch e =
-    let rows = evaluateRows p inputs gates wires Bs W scratch in
-    let clear : Clear rows = first-clear rows 0 refl e in
-    let lengths = clear .1 .1 .0 in
+pub accepted : (a : EvaluateLoans) → firstOf (evaluateRows a) ≡ 0 → Accepted (a .plan .p) (a .plan .inputs) (a .plan .circuit .gates) (a .wires) (a .plan .bounds)
+unfolding gateRows
+accepted a e =
+    let d : EvaluateDone a = evaluate-done a e in
+    let l : PlanLoans = a .plan in
+    let fewer : l .inputs ≤ l .inputs + l .circuit .count = omega arith in
     record {
-      wires-long = length-is (length wires) ((inputs + length gates) * p .n) (search (or-left, or-right) depth 8);
-      bounds-long = length-is (length Bs) (inputs + length gates) (search (or-left, or-right) depth 8);
-      residues = entries-inside (p .q) (take (inputs * p .n) wires) (or-left _ (outside (p .q * p .q) W) (clear .1 .1 .1 .0));
-      inputs-fit = not-false _ (clear .1 .1 .1 .1 .0);
-      none-wrong = clear .1 .1 .1 .1 .1 .0;
-      none-over = clear .1 .1 .1 .1 .1 .1 .0;
+      wires-long = omega (arith, d .passed .wires-long, mul-le-mul-right (l .p .n) fewer);
+      bounds-long = omega (arith, d .passed .bounds-long);
+      residues = d .passed .inside;
+      inputs-fit = d .fit;
+      none-wrong = none-true (wrongGates (l .inputs) (l .circuit .gates)) (d .gates-clear .0);
+      none-over = none-true (overGates (l .p) (l .circuit .gates) (stated l)) (d .gates-clear .1 .0);
     }
 
 module _ {p : Params} {inputs : ℕ} {gates : List Gate} {wires : List ℤ} {Bs : List ℕ} (a : Accepted p inputs gates wires Bs) where
   -- the stated bounds are one for each input
   pub stated-long : length (take inputs Bs) ≡ inputs
-  stated-long = length-take-le inputs Bs (omega (arith, a .bounds-long))
+  stated-long = length-take-le inputs Bs (a .bounds-long)
 
   module _ (i : ℕ) (inside : i < inputs) where
     pub stated-fits : 4 * getD (take inputs Bs) i 0 < p .q
@@ -57,10 +56,7 @@ module _ {p : Params} {inputs : ℕ} {gates : List Gate} {wires : List ℤ} {Bs 
 
     -- each input has n entries, which are residues
     pub input-long : length (getD (cut (p .n) inputs wires) i []) ≡ p .n
-    input-long =
-        let fewer : inputs ≤ inputs + length gates = omega arith in
-        let enough : inputs * p .n ≤ length wires = omega (arith, a .wires-long, mul-le-mul-right (p .n) fewer) in
-        each-getD (each-cut (p .n) inputs wires enough) i [] (omega (arith, length-cut (p .n) inputs wires))
+    input-long = each-getD (each-cut (p .n) inputs wires (a .wires-long)) i [] (omega (arith, length-cut (p .n) inputs wires))
 
     pub input-residues : every (isResidue (p .q)) (getD (cut (p .n) inputs wires) i []) ≡ true
     input-residues =
@@ -72,11 +68,11 @@ module _ {p : Params} {inputs : ℕ} {gates : List Gate} {wires : List ℤ} {Bs 
     -- the operands of gate i lie below its own wire
     pub operands-below : Below (inputs + i) (getD gates i z)
     operands-below =
-        gate-below (inputs + i) (getD gates i z) (sym (getD-wrongGates inputs gates i z inside) ∙ none-true (wrongGates inputs gates) i (a .none-wrong))
+        gate-below (inputs + i) (getD gates i z) (sym (getD-wrongGates inputs gates i z inside) ∙ none-at (wrongGates inputs gates) i (a .none-wrong))
 
     -- its bound by the formula fits
     pub gate-fits : 4 * gateBound p (getD gates i z) (take (inputs + i) (boundsOf p gates (take inputs Bs))) < p .q
     unfolding boundsOf
     gate-fits =
         rw (run-gate (gateBound p) gates (take inputs Bs) i z 0 inside, stated-long) at
-        (bound-fits (p .q) _ (sym (getD-overGates p gates (take inputs Bs) i inside) ∙ none-true (overGates p gates (take inputs Bs)) i (a .none-over)))
+        (bound-fits (p .q) _ (sym (getD-overGates p gates (take inputs Bs) i inside) ∙ none-at (overGates p gates (take inputs Bs)) i (a .none-over)))

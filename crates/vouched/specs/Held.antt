@@ -1,32 +1,47 @@
 -- The proof of demand 3 (the file Demand3): the inputs are sound, each gate that is neither wrong nor over the budget keeps that, and so all wires
 -- are; a sound wire decrypts to its bit.
-use mathlib.Core.Path.{_≡_, refl, sym, ap, _∙_}
-use mathlib.Core.Bool.{false}
+use mathlib.Core.Path.{_≡_, sym, ap, _∙_}
 use mathlib.Core.List.{List, [], flatten}
 use Prim.Native.Nat.{ℕ, _+_, _<_}
 use native.Mathlib.Omega.{arith}
 use lib.IntN.{ℤ}
 use lib.ListN.{length, getD, take}
 use lib.Seq.{getD-take}
-use Rattle.whole.specs.Tests.{or-left, or-right}
 use Rattle.whole.specs.Lists.{each-getD, getD-each, cut, length-cut, getD-cut, getD-flatten}
 use Rattle.refusal.specs.declared.Params.{Params}
 use Rattle.refusal.specs.declared.Refusal.{Refusal}
-use Rattle.refusal.specs.First.{firstOf, Clear, doneOr-done}
+use Rattle.refusal.specs.First.{firstOf, doneOr-done}
+use Rattle.noise.specs.Sound.{key-fits, Sound, sound-decrypts}
 use Rattle.circuit.specs.declared.Gate.{Gate}
-use Rattle.circuit.specs.Circuits.{gateBit, gateBound, gateWire, boundsOf, wiresOf, bitsOf, evaluateRows, evaluateAnswer, evaluateWires, evaluateBounds}
-use Rattle.circuit.specs.Core.{gate, records, uneven, evaluateCoreRows}
-use Rattle.circuit.specs.Records.{length-records}
-use Rattle.circuit.specs.Agree.{even-lengths, evaluate-answer-agrees, evaluate-wires-agrees, evaluate-bounds-agrees, evaluate-scratch-agrees}
-use Rattle.circuit.specs.Lowest.{evaluateCore-lowest}
+use Rattle.circuit.specs.Circuits.{gate, gateBit, gateBound, gateWire, boundsOf, wiresOf, bitsOf}
+use Rattle.circuit.specs.Evaluate.{EvaluateLoans, evaluateRows, evaluateAnswer, evaluateWires, evaluateBounds, EvaluatePromise}
+use Rattle.circuit.specs.Exact.{plan-exact, plan-wrong-exact, evaluate-exact, evaluate-wrong-exact}
 use Rattle.circuit.specs.Run.{length-run}
-use Rattle.vouched.specs.Demand3.{wireAt, Premises, Demand3, Demand3Core}
+use Rattle.vouched.specs.Demand3.{wireAt, Premises, AllVouched, Demand3}
 use Rattle.vouched.specs.Three.{Alike, three-runs}
-use Rattle.vouched.specs.Sound.{key-fits, Sound, sound-decrypts, gate-keeps}
+use Rattle.vouched.specs.Keeps.{gate-keeps}
 use Rattle.vouched.specs.Accepted.{Accepted, accepted, stated-long, stated-fits, input-long, input-residues, operands-below, gate-fits}
 
-module _ {p : Params} {inputs : ℕ} {gates : List Gate} {wires : List ℤ} {Bs : List ℕ} {W s : List ℤ} {bits : List ℕ}
-    (given : Premises p inputs wires Bs W s bits) (a : Accepted p inputs gates wires Bs) where
+module _ {l : EvaluateLoans} {s : List ℤ} {bits : List ℕ} (given : Premises l s bits)
+    (a : Accepted (l .plan .p) (l .plan .inputs) (l .plan .circuit .gates) (l .wires) (l .plan .bounds)) where
+  abbrev p : Params
+  p = l .plan .p
+
+  abbrev inputs : ℕ
+  inputs = l .plan .inputs
+
+  abbrev gates : List Gate
+  gates = l .plan .circuit .gates
+
+  abbrev wires : List ℤ
+  wires = l .wires
+
+  abbrev Bs : List ℕ
+  Bs = l .plan .bounds
+
+  abbrev W : List ℤ
+  W = l .key
+
   -- the inputs are sound
   inputs-sound : Alike (Sound p s) 0 0 [] inputs bits (take inputs Bs) (cut (p .n) inputs wires)
   inputs-sound i inside =
@@ -63,36 +78,31 @@ module _ {p : Params} {inputs : ℕ} {gates : List Gate} {wires : List ℤ} {Bs 
 
 -- ---- the theorem
 
--- the number that is answered is that of the first row that applies
-number-given : (p : Params) (inputs : ℕ) (gates : List Gate) (wires : List ℤ) (Bs : List ℕ) (W : List ℤ) (scratch : ℕ)
-    → evaluateAnswer p inputs gates wires Bs W scratch .number ≡ firstOf (evaluateRows p inputs gates wires Bs W scratch)
+answered : {a : EvaluateLoans} {r : Refusal} {wires : List ℤ} {Bs : List ℕ} {scratch : List ℤ} → EvaluatePromise a r wires Bs scratch → r .number ≡ 0
+    → firstOf (evaluateRows a) ≡ 0
 unfolding evaluateAnswer
-number-given p inputs gates wires Bs W scratch = refl
+answered promise none = sym (ap (λ (x : Refusal). x .number) (promise .answer)) ∙ none
 
-pub demand-3 : Demand3
+all-vouched : {a : EvaluateLoans} {s : List ℤ} {bits : List ℕ} {r : Refusal} {wires : List ℤ} {Bs : List ℕ} {scratch : List ℤ}
+    → Premises a s bits → EvaluatePromise a r wires Bs scratch → r .number ≡ 0 → AllVouched (a .plan) s bits wires Bs
 unfolding evaluateWires evaluateBounds
-demand-3 p inputs gates wires Bs W scratch s bits r out outBs cleared given promise none j inside =
-    let done : firstOf (evaluateRows p inputs gates wires Bs W (length scratch)) ≡ 0 =
-    sym (ap (λ (x : Refusal). x .number) (promise .0) ∙ number-given p inputs gates wires Bs W (length scratch)) ∙ none in
-    let a : Accepted p inputs gates wires Bs = accepted p inputs gates wires Bs W (length scratch) done in
-    let cs : List (List ℤ) = wiresOf p W gates (cut (p .n) inputs wires) in
+all-vouched {a = l} {s} given promise none j inside =
+    let done : firstOf (evaluateRows l) ≡ 0 = answered promise none in
+    let p : Params = l .plan .p in
+    let gates : List Gate = l .plan .circuit .gates in
+    let Bs : List ℕ = l .plan .bounds in
+    let a = accepted l done in
+    let cs : List (List ℤ) = wiresOf p (l .key) gates (cut (p .n) (l .plan .inputs) (l .wires)) in
     let sound = wires-sound given a j inside in
-    rw (promise .1, promise .2, doneOr-done (flatten cs) wires done, doneOr-done (boundsOf p gates (take inputs Bs)) Bs done, wire-at given a j inside)
+    rw (promise .wires-left, promise .bounds-left, doneOr-done (flatten cs) (l .wires) done, doneOr-done (boundsOf p gates (take (l .plan .inputs) Bs)) Bs done, wire-at given a j inside)
     (record { quiet = sound .quiet; fits = sound .fits; decrypts = sound-decrypts p s (key-fits p s (given .key)) sound })
 
--- ---- over three slices, which have one length where the number is 0
-
-pub demand-3-core : Demand3Core
-unfolding evaluateCoreRows
-demand-3-core p inputs ks ls rs wires Bs W scratch s bits r out outBs cleared given promise none j inside =
-    let clear : Clear (evaluateCoreRows p inputs ks ls rs wires Bs W (length scratch)) =
-    evaluateCore-lowest p inputs ks ls rs wires Bs W (length scratch) .done (sym (ap (λ (x : Refusal). x .number) (promise .0)) ∙ none) in
-    let even : uneven ks ls rs ≡ false = search (or-left, or-right) depth 8 in
-    let (lefts, rights) = even-lengths ks ls rs even in
-    demand-3 p inputs (records ks ls rs) wires Bs W scratch s bits r out outBs cleared given (
-      promise .0 ∙ evaluate-answer-agrees p inputs ks ls rs lefts rights wires Bs W (length scratch),
-      promise .1 ∙ evaluate-wires-agrees p inputs ks ls rs lefts rights wires Bs W scratch,
-      promise .2 ∙ evaluate-bounds-agrees p inputs ks ls rs lefts rights wires Bs W scratch,
-      promise .3 ∙ evaluate-scratch-agrees p inputs ks ls rs lefts rights wires Bs W scratch,
-    )
-    none j (omega (arith, length-records ks ls rs lefts rights))
+pub demand-3 : Demand3
+demand-3 =
+    record {
+      vouches = all-vouched;
+      evaluation-exact = λ {a} promise clear. rw (promise .answer) (evaluate-exact a clear);
+      planning-exact = λ {a} promise clear. rw (promise .answer) (plan-exact a clear);
+      evaluation-wrong = λ {a} promise clear. rw (promise .answer) (evaluate-wrong-exact a clear);
+      planning-wrong = λ {a} promise clear. rw (promise .answer) (plan-wrong-exact a clear);
+    }

@@ -1,36 +1,17 @@
--- Each promise of planning and evaluation has one answer: what meets a promise on the same inputs is the same, buffers included, since two
--- things that equal a third are equal. Over gate records, and over the core's three lists.
-use mathlib.Core.Path.{_≡_, sym, _∙_}
+-- Each promise of planning and evaluation has one answer: what meets a promise on the same loans is the same, buffers included. It is one law, `one`, for each field.
+use mathlib.Core.Path.{_≡_}
 use mathlib.Core.List.{List}
 use Prim.Native.Nat.{ℕ}
 use lib.IntN.{ℤ}
-use Rattle.refusal.specs.declared.Params.{Params}
 use Rattle.refusal.specs.declared.Refusal.{Refusal}
-use Rattle.circuit.specs.declared.Gate.{Gate}
-use Rattle.vouched.specs.Promises.{PlanPromise, PlanCorePromise, EvaluatePromise, EvaluateCorePromise}
+use Rattle.refusal.specs.First.{one}
+use Rattle.circuit.specs.Plan.{PlanLoans, PlanPromise}
+use Rattle.circuit.specs.Evaluate.{EvaluateLoans, EvaluatePromise}
 
--- ---- planning
+pub plan-unique : (a : PlanLoans) {r r′ : Refusal} {bounds bounds′ : List ℕ} → PlanPromise a r bounds → PlanPromise a r′ bounds′ → (r ≡ r′) × (bounds ≡ bounds′)
+plan-unique a x y = (one (x .answer) (y .answer), one (x .bounds-left) (y .bounds-left))
 
-pub plan-unique : (p : Params) (inputs : ℕ) (gates : List Gate) (Bs : List ℕ) {r r′ : Refusal} {out out′ : List ℕ}
-    → PlanPromise p inputs gates Bs r out → PlanPromise p inputs gates Bs r′ out′ → (r ≡ r′) × (out ≡ out′)
-plan-unique p inputs gates Bs a b = (a .0 ∙ sym (b .0), a .1 ∙ sym (b .1))
-
-pub planCore-unique : (p : Params) (inputs : ℕ) (ks ls rs Bs : List ℕ) {r r′ : Refusal} {out out′ : List ℕ}
-    → PlanCorePromise p inputs ks ls rs Bs r out → PlanCorePromise p inputs ks ls rs Bs r′ out′ → (r ≡ r′) × (out ≡ out′)
-planCore-unique p inputs ks ls rs Bs a b = (a .0 ∙ sym (b .0), a .1 ∙ sym (b .1))
-
--- ---- evaluation
-
-pub evaluate-unique : (p : Params) (inputs : ℕ) (gates : List Gate) (wires : List ℤ) (Bs : List ℕ) (W scratch : List ℤ)
-    {r r′ : Refusal} {out out′ : List ℤ} {outBs outBs′ : List ℕ} {cleared cleared′ : List ℤ}
-    → EvaluatePromise p inputs gates wires Bs W scratch r out outBs cleared
-    → EvaluatePromise p inputs gates wires Bs W scratch r′ out′ outBs′ cleared′
-    → (r ≡ r′) × (out ≡ out′) × (outBs ≡ outBs′) × (cleared ≡ cleared′)
-evaluate-unique p inputs gates wires Bs W scratch a b = (a .0 ∙ sym (b .0), a .1 ∙ sym (b .1), a .2 ∙ sym (b .2), a .3 ∙ sym (b .3))
-
-pub evaluateCore-unique : (p : Params) (inputs : ℕ) (ks ls rs : List ℕ) (wires : List ℤ) (Bs : List ℕ) (W scratch : List ℤ)
-    {r r′ : Refusal} {out out′ : List ℤ} {outBs outBs′ : List ℕ} {cleared cleared′ : List ℤ}
-    → EvaluateCorePromise p inputs ks ls rs wires Bs W scratch r out outBs cleared
-    → EvaluateCorePromise p inputs ks ls rs wires Bs W scratch r′ out′ outBs′ cleared′
-    → (r ≡ r′) × (out ≡ out′) × (outBs ≡ outBs′) × (cleared ≡ cleared′)
-evaluateCore-unique p inputs ks ls rs wires Bs W scratch a b = (a .0 ∙ sym (b .0), a .1 ∙ sym (b .1), a .2 ∙ sym (b .2), a .3 ∙ sym (b .3))
+pub evaluate-unique : (a : EvaluateLoans) {r r′ : Refusal} {wires wires′ : List ℤ} {bounds bounds′ : List ℕ} {scratch scratch′ : List ℤ}
+    → EvaluatePromise a r wires bounds scratch → EvaluatePromise a r′ wires′ bounds′ scratch′
+    → (r ≡ r′) × (wires ≡ wires′) × (bounds ≡ bounds′) × (scratch ≡ scratch′)
+evaluate-unique a x y = (one (x .answer) (y .answer), one (x .wires-left) (y .wires-left), one (x .bounds-left) (y .bounds-left), one (x .scratch-left) (y .scratch-left))

@@ -1,39 +1,23 @@
--- What is carried from wire to wire, and that each kind of gate keeps it: one noise fact for each.
-use mathlib.Core.Path.{_≡_, refl, sym, ap₂, _∙_}
-use mathlib.Core.Bool.{true, false}
+-- Each kind of gate keeps a ciphertext sound, by one noise fact for each.
+use mathlib.Core.Path.{_≡_, sym, _∙_}
 use mathlib.Core.List.{List, []}
-use Prim.Native.Nat.{ℕ, zero, suc, _+_, _*_, _%_, _-_, _≤_, _<_}
+use Prim.Native.Nat.{ℕ, zero, suc, _+_, _*_, _%_, _-_, _<_}
 use native.Mathlib.Nat.{mul-le-mul}
 use native.Mathlib.Omega.{arith}
 use lib.IntN.{ℤ}
 use lib.ListN.{length, getD}
-use Rattle.whole.specs.Lists.{every}
 use Rattle.refusal.specs.declared.Params.{Params}
-use Rattle.refusal.specs.First.{firstOf, first-clear, Clear, rising}
 use Rattle.refusal.specs.Parameters.{InRange}
-use Rattle.scheme.specs.Arithmetic.{isResidue, noise, XOR, XOR-bound, AND, AND-bound, NOT, NOT-bound}
-use Rattle.scheme.specs.Calls.{badParams, differs, badKey, keyCheckRows, decryptAnswer, decrypted}
+use Rattle.scheme.specs.Arithmetic.{XOR, XOR-bound, AND, AND-bound, NOT, NOT-bound}
 use Rattle.scheme.specs.Passed.{params-in-range, length-is, key-begins, key-within}
 use Rattle.scheme.specs.Wording.{length-XOR, xor-residues, length-NOT, not-residues, length-AND, and-residues}
-use Rattle.noise.specs.Gates.{xor-noise, not-noise, decrypt-right}
-use Rattle.noise.specs.Fresh.{decrypt-accepts}
+use Rattle.noise.specs.Gates.{xor-noise, not-noise}
+use Rattle.noise.specs.Sound.{KeyFits, Sound}
 use Rattle.noise.specs.Built.{BuiltFor}
 use Rattle.noise.specs.And.{and-noise}
 use Rattle.circuit.specs.declared.Gate.{Gate}
 use Rattle.circuit.specs.Circuits.{byKind, gateBit, gateBound, gateWire}
 use Rattle.circuit.specs.Records.{Below}
-
--- the key check finds nothing
-pub record KeyFits (p : Params) (s : List ℤ) : Type 0 where
-  pub params : badParams p ≡ false
-  pub long : differs (length s) (p .n) ≡ false
-  pub key : badKey (p .l) s ≡ false
-
-pub key-fits : (p : Params) (s : List ℤ) → firstOf (keyCheckRows p s) ≡ 0 → KeyFits p s
-unfolding keyCheckRows rising
-key-fits p s e =
-    let clear : Clear (keyCheckRows p s) = first-clear (keyCheckRows p s) 0 refl e in
-    record { params = clear .0; long = clear .1 .0; key = clear .1 .1 .0 }
 
 -- what holds of the three choices by kind holds of the one that is made
 by-kind : {A B C : Type 0} (R : A → B → C → Type 0) (k : ℕ) {x a n : A} {x′ a′ n′ : B} {x″ a″ n″ : C}
@@ -43,28 +27,12 @@ by-kind R zero x a n = x
 by-kind R (suc zero) x a n = a
 by-kind R (suc (suc k)) x a n = n
 
--- c is a ciphertext of the bit b: n residues, whose true noise for b is at most B, and B fits the budget
-pub record Sound (p : Params) (s : List ℤ) (b B : ℕ) (c : List ℤ) : Type 0 where
-  pub bit : b ≤ 1
-  pub long : length c ≡ p .n
-  pub residues : every (isResidue (p .q)) c ≡ true
-  pub quiet : noise (p .q) s c b ≤ B
-  pub fits : 4 * B < p .q
-
 module _ (p : Params) (s : List ℤ) (key : KeyFits p s) where
   range : InRange p
   range = params-in-range p (key .params)
 
   positive : 0 < p .q
   positive = omega (arith, range .q-low)
-
-  -- so it decrypts to b
-  pub sound-decrypts : {b B : ℕ} {c : List ℤ} → Sound p s b B c → decryptAnswer p s c ≡ decrypted 0 b
-  unfolding decryptAnswer
-  sound-decrypts {b} {B} {c} w =
-      ap₂ decrypted
-      (decrypt-accepts p s c (key .params) (key .long) (w .long) (key .key) (w .residues))
-      (decrypt-right (p .q) s c b positive (range .q-even) (w .bit) (omega (arith, w .quiet, w .fits)))
 
   -- ---- each kind of gate, where the bound of its result fits
 
