@@ -1,4 +1,4 @@
--- `cipher::decrypt` answers the number that `decrypt_number` ensures, and where it is 0 the bit that `decrypt_bit` does, of which what it
+-- `regev::decrypt` answers the number that `decrypt_number` ensures, and where it is 0 the bit that `decrypt_bit` does, of which what it
 -- asks is in `DecryptReady`.
 use mathlib.Core.Path.{_≡_, sym, _∙_}
 use borrow.Author.Needs.{needs}

@@ -1,4 +1,4 @@
--- `cipher::encrypt` answers the number that `encrypt_number` ensures and leaves the buffer as found, and where it is 0 the bound E with
+-- `regev::encrypt` answers the number that `encrypt_number` ensures and leaves the buffer as found, and where it is 0 the bound E with
 -- the ciphertext that `encrypt_into` ensures, of which what it asks is in `EncryptReady`.
 use mathlib.Core.Path.{_≡_, refl, sym, _∙_}
 use lib.ListN.{length}

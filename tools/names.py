@@ -1,0 +1,138 @@
+#!/usr/bin/env python3
+"""Every name in the backquotes of a comment must exist: exit status 1 and a line for each that does not.
+
+Read are the comments of all `.rt` and `.antt` files of the crates. What stands in backquotes there is one of these:
+
+- a path, `crate::module::function`, or `module::function` or `Type::function` of the same crate or of what its code uses: it is there;
+- a file, `crate/File`, `crate/specs/File.antt`, or a must-fail edit, `crate/edit`: it is there;
+- text: each word of it that looks like a name, from two letters on, is a crate, a module or a file of the crates, a function, or a
+  word of what is no comment, in the crate itself or in those that it leans on.
+
+    tools/names.py           check
+    tools/names.py --list    print the names that were found, one line each
+"""
+import functools
+import pathlib
+import re
+import sys
+
+ROOT = pathlib.Path(__file__).resolve().parent.parent
+CRATES = ROOT / "crates"
+MARK = {".rt": "//", ".antt": "--"}
+WORD = re.compile(r"[^\W\d_][\w'→-]*[\w']")
+PATH = re.compile(r"\w+(?:::\w+)+")
+FILE = re.compile(r"(?:\w+/)+\w+(?:\.\w+)?|\w+\.(?:antt|rt|py|md|txt)")
+
+
+def sources(crate):
+    return sorted(path for path in (CRATES / crate).rglob("*") if path.suffix in MARK)
+
+
+def parted(path):
+    """A source file's text without its comments, and the comments as (line, text), those on neighbouring lines put together."""
+    code, comments, open_at = [], [], -1
+    for at, line in enumerate(path.read_text(encoding="utf-8").splitlines(), 1):
+        before, mark, after = line.partition(MARK[path.suffix])
+        if path.suffix == ".antt" and mark and (before[-1:] not in ("", " ") or after[:1] not in ("", " ")):
+            before, mark = line, ""
+        code.append(before)
+        if mark and open_at == at - 1 and not before.strip():
+            comments[-1] = (comments[-1][0], f"{comments[-1][1]} {after.strip('/! ')}")
+        elif mark:
+            comments.append((at, after.strip("/! ")))
+        open_at = at if mark else -1
+    return "\n".join(code), comments
+
+
+@functools.lru_cache(maxsize=None)
+def leans():
+    """Each crate with those that it leans on."""
+    lines = (ROOT / "crates.txt").read_text(encoding="utf-8").splitlines()
+    return {line.partition(":")[0]: line.partition(":")[2].split() for line in lines if ":" in line and not line.startswith("#")}
+
+
+@functools.lru_cache(maxsize=None)
+def words(crate):
+    """The words of a crate's sources that are in no comment."""
+    return {word for path in sources(crate) for word in WORD.findall(parted(path)[0])}
+
+
+@functools.lru_cache(maxsize=None)
+def known(crate):
+    """The words that a comment of a crate may use as a name."""
+    near = {crate, *leans()[crate]} & set(leans())
+    found = {word for name in near for word in words(name)} | set(leans())
+    return found | {path.stem for name in near for path in sources(name)}
+
+
+@functools.lru_cache(maxsize=None)
+def declared(crate):
+    """The paths of a crate's functions, types, constants and modules: (module or type, name), with "" for the root."""
+    found = {("", "")}
+    for path in sorted((CRATES / crate / "src").glob("*.rt")):
+        module, owner = ("" if path.stem in ("lib", "main") else path.stem), ""
+        found.add(("", module))
+        for line in parted(path)[0].splitlines():
+            owner = next(iter(re.findall(r"^impl (\w+)", line)), "" if line.startswith("}") else owner)
+            for name in re.findall(r"^ *(?:pub )?(?:extern \"C\" )?(?:fn|struct|enum|const) (\w+)", line):
+                found |= {(owner or module, name), (module, name)}
+            found |= {("", name) for name in re.findall(r"^pub use [\w:]*?(\w+);", line)}
+    return found
+
+
+def is_in(crate, parts):
+    """Whether a crate has a function, type, constant or module of that path."""
+    owner, name = ([""] + parts)[-2:]
+    return (owner, name) in declared(crate) and all(("", part) in declared(crate) for part in parts[:-2])
+
+
+def is_path(crate, path):
+    """Whether the path begins with a crate, stands in the crate itself, or begins with what its code uses of another."""
+    parts = path.split("::")
+    if parts[0] in leans() and is_in(parts[0], parts[1:]) or is_in(crate, parts):
+        return True
+    used = {use for source in sources(crate) for use in re.findall(rf"^use (\w+)::(?:\w+::)*{parts[0]};", parted(source)[0], re.M)}
+    return any(is_in(other, parts) for other in used & set(leans()))
+
+
+def is_file(crate, name):
+    tail = name if re.search(r"\.\w+$", name) else f"{name}.*"
+    places = (ROOT, CRATES, CRATES / crate, CRATES / crate / "specs", CRATES / crate / "proofs", CRATES / crate / "src")
+    if any(any(place.glob(tail)) or (place / name).exists() for place in places):
+        return True
+    head, _, rest = tail.partition("/")
+    return head in leans() and any(any((CRATES / head / folder).glob(rest)) for folder in ("specs", "proofs", "src", "must-fail"))
+
+
+def unknown(crate, text):
+    """The names in a comment's backquotes that do not exist."""
+    if PATH.fullmatch(text):
+        return [] if is_path(crate, text) else [text]
+    if FILE.fullmatch(text):
+        return [] if is_file(crate, text) else [text]
+    return [word for word in WORD.findall(text) if word not in known(crate)]
+
+
+def quoted():
+    """(crate, path, line, text) of each backquoted text of a comment."""
+    for crate in leans():
+        for path in sources(crate):
+            for line, comment in parted(path)[1]:
+                yield from ((crate, path, line, text) for text in re.findall(r"`([^`]+)`", comment))
+
+
+def main():
+    found = list(quoted())
+    if "--list" in sys.argv:
+        for _, path, line, text in found:
+            print(f"{path.relative_to(ROOT)}:{line}: {text}")
+        return 0
+    faults = [(path, line, name) for crate, path, line, text in found for name in unknown(crate, text)]
+    for path, line, name in faults:
+        print(f"names: {path.relative_to(ROOT)}:{line}: there is no {name}")
+    print(f"names: {len(found)} names in comments, {len(faults)} faults")
+    return 1 if faults else 0
+
+
+if __name__ == "__main__":
+    sys.exit(main())
