@@ -5,8 +5,9 @@ Read are the comments of all `.rt` and `.antt` files of the crates. What stands 
 
 - a path, `crate::module::function`, or `module::function` or `Type::function` of the same crate or of what its code uses: it is there;
 - a file, `crate/File`, `crate/specs/File.antt`, or a must-fail edit, `crate/edit`: it is there;
-- text: each word of it that looks like a name, from two letters on, is a crate, a module or a file of the crates, a function, or a
-  word of what is no comment, in the crate itself or in those that it leans on.
+- text: each word of it that looks like a name, from two letters on, is declared in the crate itself or in one that it leans on (a module, a
+  file, a function, a definition, a law, a field, a parameter or a local), or imported in the crate, or it is a crate, a word of the
+  languages, or a word of the same file or of the module that the file proves.
 
     tools/names.py           check
     tools/names.py --list    print the names that were found, one line each
@@ -22,6 +23,15 @@ MARK = {".rt": "//", ".antt": "--"}
 WORD = re.compile(r"[^\W\d_][\w'→-]*[\w']")
 PATH = re.compile(r"\w+(?:::\w+)+")
 FILE = re.compile(r"(?:\w+/)+\w+(?:\.\w+)?|\w+\.(?:antt|rt|py|md|txt)")
+LANGUAGE = {"requires", "ensures", "unfolding"}
+IMPORT = re.compile(r"^(?:ghost )?use [^;{]*\.\{([^}]*)\}", re.M)
+LOGIC = (  # declarations, fields and locals; parameters; bound names
+    re.compile(r"^ *(?:(?:abbrev|unfoldable|opaque|let) )*(?:pub )?(?:(?:record|data) )?([^\s:(){}=]+)(?: [({].*?[)}])* :(?= |$)", re.M),
+    re.compile(r"[({]([\w' -]+) :"), re.compile(r"λ ([\w' ]+)\."),
+)
+CODE = (  # declarations and locals; fields; parameters
+    re.compile(r"\b(?:fn|struct|enum|const|mod|let mut|let) (\w+)"), re.compile(r"^ +(?:pub )?(\w+):", re.M), re.compile(r"[(,] ?(\w+): "),
+)
 
 
 def sources(crate):
@@ -51,18 +61,36 @@ def leans():
     return {line.partition(":")[0]: line.partition(":")[2].split() for line in lines if ":" in line and not line.startswith("#")}
 
 
+def words(path):
+    """The words of a file that are in no comment."""
+    return set(WORD.findall(parted(path)[0]))
+
+
 @functools.lru_cache(maxsize=None)
-def words(crate):
-    """The words of a crate's sources that are in no comment."""
-    return {word for path in sources(crate) for word in WORD.findall(parted(path)[0])}
+def local(crate):
+    """The names that a crate's sources declare."""
+    found = {path.stem for path in sources(crate)}
+    for path in sources(crate):
+        for pattern in LOGIC if path.suffix == ".antt" else CODE:
+            found |= {word for group in pattern.findall(parted(path)[0]) for word in group.split()}
+    return found
 
 
 @functools.lru_cache(maxsize=None)
 def known(crate):
-    """The words that a comment of a crate may use as a name."""
+    """The words that any comment of a crate may use as a name."""
+    imported = {word for path in sources(crate) for group in IMPORT.findall(parted(path)[0]) for word in WORD.findall(group)}
     near = {crate, *leans()[crate]} & set(leans())
-    found = {word for name in near for word in words(name)} | set(leans())
-    return found | {path.stem for name in near for path in sources(name)}
+    return set(leans()) | LANGUAGE | imported | {word for name in near for word in local(name)}
+
+
+@functools.lru_cache(maxsize=None)
+def beside(crate, path):
+    """The words of a file, and of the module that it proves."""
+    folder, module = path.relative_to(CRATES / crate).parts[:2]
+    sources_of = [CRATES / crate / "src" / f"{name}.rt" for name in (module, "lib", "main")] if folder == "proofs" else []
+    proved = next((source for source in sources_of if source.exists()), path)
+    return words(path) | words(proved)
 
 
 @functools.lru_cache(maxsize=None)
@@ -104,13 +132,13 @@ def is_file(crate, name):
     return head in leans() and any(any((CRATES / head / folder).glob(rest)) for folder in ("specs", "proofs", "src", "must-fail"))
 
 
-def unknown(crate, text):
+def unknown(crate, path, text):
     """The names in a comment's backquotes that do not exist."""
     if PATH.fullmatch(text):
         return [] if is_path(crate, text) else [text]
     if FILE.fullmatch(text):
         return [] if is_file(crate, text) else [text]
-    return [word for word in WORD.findall(text) if word not in known(crate)]
+    return [word for word in WORD.findall(text) if word not in known(crate) and word not in beside(crate, path)]
 
 
 def quoted():
@@ -127,7 +155,7 @@ def main():
         for _, path, line, text in found:
             print(f"{path.relative_to(ROOT)}:{line}: {text}")
         return 0
-    faults = [(path, line, name) for crate, path, line, text in found for name in unknown(crate, text)]
+    faults = [(path, line, name) for crate, path, line, text in found for name in unknown(crate, path, text)]
     for path, line, name in faults:
         print(f"names: {path.relative_to(ROOT)}:{line}: there is no {name}")
     print(f"names: {len(found)} names in comments, {len(faults)} faults")
