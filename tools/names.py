@@ -1,7 +1,8 @@
 #!/usr/bin/env python3
 """Every name in the backquotes of a comment must exist: exit status 1 and a line for each that does not.
 
-Read are the comments of all `.rt` and `.antt` files of the crates. What stands in backquotes there is one of these:
+Read are the comments of all `.rt` and `.antt` files of the crates, and the pages of the design and of the decisions, which may name
+what is in any crate and what the scripts of the tests use. What stands in backquotes there is one of these:
 
 - a path, `crate::module::function`, or `module::function` or `Type::function` of the same crate or of what its code uses: it is there;
 - a file, `crate/File`, `crate/specs/File.antt`, or a must-fail edit, `crate/edit`: it is there;
@@ -23,7 +24,8 @@ MARK = {".rt": "//", ".antt": "--"}
 WORD = re.compile(r"[^\W\d_][\w'→-]*[\w']")
 PATH = re.compile(r"\w+(?:::\w+)+")
 FILE = re.compile(r"(?:\w+/)+\w+(?:\.\w+)?|\w+\.(?:antt|rt|py|md|txt)")
-LANGUAGE = {"requires", "ensures", "unfolding"}
+LANGUAGE = {"requires", "ensures", "unfolding", "omega"}
+PAGES = ("docs/DESIGN.md", "docs/DECISIONS.md")
 IMPORT = re.compile(r"^(?:ghost )?use [^;{]*\.\{([^}]*)\}", re.M)
 LOGIC = (  # declarations, fields and locals; parameters; bound names
     re.compile(r"^ *(?:(?:abbrev|unfoldable|opaque|let) )*(?:pub )?(?:(?:record|data) )?([^\s:(){}=]+)(?: [({].*?[)}])* :(?= |$)", re.M),
@@ -141,6 +143,30 @@ def unknown(crate, path, text):
     return [word for word in WORD.findall(text) if word not in known(crate) and word not in beside(crate, path)]
 
 
+def unknown_on_page(text):
+    """The names in a page's backquotes that no crate and no script has."""
+    if PATH.fullmatch(text):
+        return [] if any(is_path(crate, text) for crate in leans()) else [text]
+    if FILE.fullmatch(text) or text.endswith("/"):
+        return [] if any(is_file(crate, text.rstrip("/")) for crate in leans()) else [text]
+    return [word for word in WORD.findall(text) if not any(word in known(crate) for crate in leans()) and word not in of_scripts()]
+
+
+@functools.lru_cache(maxsize=None)
+def of_scripts():
+    """The words of the scripts."""
+    paths = [ROOT / "test", *(ROOT / "tools").iterdir(), *(ROOT / "bench").glob("*.py")]
+    return {word for path in paths if path.is_file() for word in WORD.findall(path.read_text(encoding="utf-8"))}
+
+
+def of_pages():
+    """(path, line, text) of each backquoted text of a page. A text may stand on two lines."""
+    for page in PAGES:
+        text = (ROOT / page).read_text(encoding="utf-8")
+        for found in re.finditer(r"`([^`]+)`", text):
+            yield ROOT / page, text.count("\n", 0, found.start()) + 1, " ".join(found[1].split())
+
+
 def quoted():
     """(crate, path, line, text) of each backquoted text of a comment."""
     for crate in leans():
@@ -155,10 +181,12 @@ def main():
         for _, path, line, text in found:
             print(f"{path.relative_to(ROOT)}:{line}: {text}")
         return 0
+    paged = list(of_pages())
     faults = [(path, line, name) for crate, path, line, text in found for name in unknown(crate, path, text)]
+    faults += [(path, line, name) for path, line, text in paged for name in unknown_on_page(text)]
     for path, line, name in faults:
         print(f"names: {path.relative_to(ROOT)}:{line}: there is no {name}")
-    print(f"names: {len(found)} names in comments, {len(faults)} faults")
+    print(f"names: {len(found)} names in comments, {len(paged)} on pages, {len(faults)} faults")
     return 1 if faults else 0
 
 
