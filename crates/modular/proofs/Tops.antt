@@ -44,7 +44,7 @@ residue-mag h x = let e : 2 * h / 2 ≡ h = omega arith in rw e (range-mag h x)
 abbrev pub lowHigh : ℕ → ℕ → Bool
 lowHigh y z = ltb y top && leb top z
 
--- it is a test t where t tells both when it holds and one of the two when it fails
+-- it is t, for any test t that gives both when it holds, and that not both hold when it fails
 lowHigh-is : (t : Bool) (y z : ℕ) → (t ≡ true → (y < top) × (top ≤ z)) → (t ≡ false → y < top → z < top)
     → lowHigh y z ≡ t
 lowHigh-is true y z holds fails = and-both (lt-ltb y top (holds refl .0)) (le-leb top z (holds refl .1))
