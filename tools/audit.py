@@ -4,7 +4,8 @@
     python3 tools/audit.py --list [CRATE...]                       prints the edits, one line each
     python3 tools/audit.py --try FOLDER [--each N] [CRATE...]      tries them, or N of each function, in a copy of the repository at FOLDER, which it makes
                                                                    where there is none; what was tried there before is not tried again
-    python3 tools/audit.py --page FOLDER...                        the tables of docs/AUDIT.md, from what was tried in those folders
+    python3 tools/audit.py --page FOLDER...                        prints the tables of docs/AUDIT.md, from what was tried in those folders, and writes the
+                                                                   listing, docs/audit_functions.tsv or docs/audit_definitions.tsv
 
 With --definitions the edits are of the definitions that docs/DEFINITIONS.md names, and else of every function of the engine's crates.
 
@@ -179,14 +180,14 @@ def table(rows):
         print(f"| {crate} | {len({(t.crate, t.file, t.name) for t in of})} | " + " | ".join(f"{n:,}" for n in counts(of)) + " |")
 
 
-def listed(rows):
-    """Every edit, under the name of what it is an edit of."""
-    print("R is refused, C does not compile, A is accepted.")
-    for name, of in grouped(rows, lambda t: f"{t.crate}/{t.file} {t.name}").items():
-        print(f"\n### {name}\n\n```")
-        for t in of:
-            print({REFUSED: "R", BAD: "C", ACCEPTED: "A"}[t.verdict] + f" {t.old}  →  {t.new}")
-        print("```")
+def write_functions(rows):
+    """Every edit of a function, with its verdict."""
+    write("audit_functions.tsv", ("crate", "file", "function", "verdict", "old", "new"), ((t.crate, t.file, t.name, t.verdict, t.old, t.new) for t in rows))
+
+
+def write(file, head, rows):
+    """A listing of docs/, a line for each row."""
+    (ROOT / "docs" / file).write_text("".join("\t".join(row) + "\n" for row in (head, *rows)), encoding="utf-8")
 
 
 def weight(broken):
@@ -195,14 +196,14 @@ def weight(broken):
     return next((k for k, files in enumerate(SHOWN_FIRST) if file in files), len(SHOWN_FIRST))
 
 
-def by_definition(rows):
+def write_definitions(rows):
     """What no longer holds, definition by definition, in how many of its edits: the figures first, at most four."""
-    print("| definition | edits | refused | accepted | what fails, in how many of them |\n|---|---|---|---|---|")
-    for name, of in grouped(rows, lambda t: f"`{t.crate}/{t.file[:-5]}`: `{t.name}`").items():
+    listing = []
+    for (crate, file, name), of in grouped(rows, lambda t: (t.crate, t.file[:-5], t.name)).items():
         said = collections.Counter(b for t in of if t.verdict == REFUSED for b in t.by.split("; "))
         shown = sorted(said, key=lambda b: (weight(b), -said[b]))[:4]
-        tried_, refused, _, accepted = counts(of)
-        print(f"| {name} | {tried_} | {refused} | {accepted} | " + "; ".join(f"{b.split('/', 1)[1]} ({said[b]})" for b in shown) + " |")
+        listing.append((crate, file, name, *map(str, counts(of)), "; ".join(f"{b.split('/', 1)[1]} ({said[b]})" for b in shown)))
+    write("audit_definitions.tsv", ("crate", "file", "definition", "edits", "refused", "do not compile", "accepted", "what fails, in how many of them"), listing)
 
 
 def main():
@@ -218,9 +219,9 @@ def main():
     crates = given.crates or kind.crates
     if given.page:
         rows = [t for folder in given.page for t in results(folder)]
-        (by_definition if given.definitions else table)(rows)
-        print()
-        listed([t for t in rows if t.verdict == ACCEPTED or not given.definitions])
+        table(rows)
+        print("\nAccepted:\n" + "".join(f"\n- {told(t)}" for t in rows if t.verdict == ACCEPTED))
+        (write_definitions if given.definitions else write_functions)(rows)
     elif given.folder:
         try_all(kind, given.folder, crates, given.each)
     else:

@@ -141,7 +141,7 @@ def of_code(root, crate):
 
 def defined(root, crate):
     """The names that the table of definitions gives, file by file."""
-    table = (root / "docs" / "DEFINITIONS.md").read_text(encoding="utf-8")
+    table = " ".join((root / "docs" / "DEFINITIONS.md").read_text(encoding="utf-8").split())
     names = collections.defaultdict(set)
     for file, listed in re.findall(rf"`{crate}/(\w+)`: ((?:`[^`]+`(?:, )?)+)", table):
         names[file].update(re.findall(r"`([^`]+)`", listed))

@@ -1,8 +1,9 @@
 #!/usr/bin/env python3
 """Holds docs/DEFINITIONS.md against the paper and against the crates.
 
-Every sentence of docs/PAPER.md from its beginning to *Circuit file and printer* must have its row, with its number and its
-words; every name in a row must be declared in the file that the row gives. Exit status 1 and a line for each fault otherwise.
+Every sentence of docs/PAPER.md from its beginning to *Circuit file and printer*, and every sentence of a request of
+docs/REQUESTS.md that has landed, must have its row, with its number and its words; every name in a row must be declared in the
+file that the row gives. Exit status 1 and a line for each fault otherwise.
 
     tools/definitions.py           check
     tools/definitions.py --list    print the numbered sentences
@@ -14,10 +15,10 @@ from paper import SECTIONS, names, numbered, read, row_faults, undeclared
 DEFINING = SECTIONS[:6]
 
 
-def answer_faults(answer):
-    if not any(names(answer)):
-        yield "names no definition"
-    yield from undeclared(answer)
+def answer_faults(holders):
+    yield from (f"names no definition: {holder}" for holder in holders if not any(names(holder)))
+    for holder in holders:
+        yield from undeclared(holder)
 
 
 def main():

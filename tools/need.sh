@@ -12,7 +12,22 @@ need() {
 # install_package PACKAGE: installs a Debian package.
 install_package() {
     echo "Installing $1, a Debian package." >&2
-    apt-get update -qq >&2 && apt-get install -y -qq "$1" >&2
+    apt_get update && apt_get install -y "$1"
+}
+
+# apt_get WORD...: apt-get, which waits, ten minutes at most, while another process holds one of the package system's locks. What it says
+# is told where it fails.
+apt_get() {
+    local said turn
+    for turn in $(seq 120); do
+        said=$(LC_ALL=C apt-get -qq -o DPkg::Lock::Timeout=600 "$@" 2>&1) && return
+        case $said in
+            *"Could not get lock"* | *"Unable to lock"*) sleep 5 ;;
+            *) break ;;
+        esac
+    done
+    echo "$said" >&2
+    return 1
 }
 
 # need_x86_compiler: sees that a C compiler for x86-64 is there, and names it in `compiler`.

@@ -1,11 +1,14 @@
 #!/usr/bin/env python3
 """Holds docs/PROMISES.md against document 01 and against the crates. Exit status 1 and a line for each fault.
 
-- Sentences: each sentence of document 01 has its row, with its number and its words, and the row names what holds it or says why it promises nothing.
-- Names: every function, must-fail edit, run, file, theorem and witness on the page exists, and the function has an `ensures`. Every must-fail edit of the crates
-  and every function that another crate can call is named.
-- Calls: a public call has no `requires`, and an equation for what it returns and for each buffer that it may write, by a definition that a file Unique has.
-- Engines: each engine that document 01 shuts out has its row, with an edit or a witness.
+- Sentences: each sentence of document 01 and of each request that has landed has its row, with its number and its words, and the
+  row names what holds it, each with its kind, or says why it promises nothing. The sentences that a request changes are those
+  that docs/DEFINITIONS.md marks too.
+- Names: every function, must-fail edit, run, file, theorem and witness on the page exists, and the function has an `ensures`.
+  Every must-fail edit of the crates and every function that another crate can call is named.
+- Calls: a public call has no `requires`, and an equation for what it returns and for each buffer that it may write, by a
+  definition that a file Unique has.
+- Engines: each engine that document 01 shuts out has its entry, with an edit or a witness.
 - Code: every public function has an `ensures` that speaks of what it returns.
 
     tools/promises.py           check
@@ -15,7 +18,7 @@ import re
 import sys
 
 import contracts
-from paper import CRATES, ROOT, SECTIONS, cells_of, is_rule, names, numbered, read, row_faults, section, undeclared
+from paper import CRATES, ROOT, SECTIONS, entries, flat, marks, names, numbered, read, row_faults, section, undeclared
 
 CRATE = "|".join(sorted(path.name for path in CRATES.iterdir()))
 PATH = re.compile(rf"`({CRATE})::([\w:]+)`")
@@ -24,12 +27,9 @@ RUN = re.compile(r"`((?:boundary|examples|oracle|tools)/[\w.]+)`")
 WITNESS = re.compile(r"witness(?:es)? ((?:`[\w-]+`(?:, | and )?)+)")
 SHUT_OUT = "These are shut out: "
 READING = "## What holds each sentence"
-
-
-def table(page, heading):
-    """The rows of the table under a heading, without its head."""
-    lines = [cells_of(line) for line in section(page, heading).split("\n") if line.startswith("|")]
-    return [cells for cells in lines[1:] if not is_rule(cells)]
+KINDS = {  # what a holder of each kind must name
+    "contract": PATH.search, "theorem": lambda text: any(names(text)), "edit": EDIT.search, "run": RUN.search, "gap": None,
+}
 
 
 def path_faults(text):
@@ -52,11 +52,26 @@ def run_faults(text):
             yield f"names {path}, which the tests do not run"
 
 
-def answer_faults(answer):
+def answer_faults(holders):
     """What is wrong with that which is said to hold a sentence."""
-    if not (any(names(answer)) or any(pattern.search(answer) for pattern in (PATH, EDIT, RUN))):
+    kinds = [holder.partition(":")[0] for holder in holders]
+    if not set(kinds) - {"gap"}:
         yield "names no contract, theorem, edit or run"
-    yield from undeclared(answer)
+    for kind, holder in zip(kinds, holders):
+        if kind not in KINDS:
+            yield f"is no contract, theorem, edit, run or gap: {holder}"
+        elif KINDS[kind] and not KINDS[kind](holder):
+            yield f"names no {kind}: {holder}"
+        yield from undeclared(holder)
+
+
+def mark_faults(page):
+    """Where this page and that of the definitions do not mark the same sentences as changed."""
+    here, there = marks(page), marks(read("docs/DEFINITIONS.md"))
+    defined = {number for number, _ in numbered(SECTIONS[:6])}
+    for number in sorted(defined & (set(here) | set(there))):
+        if here.get(number) != there.get(number):
+            yield f"has {number} changed by {here.get(number, [])}, docs/DEFINITIONS.md by {there.get(number, [])}"
 
 
 def edit_faults(page):
@@ -75,7 +90,7 @@ def file_faults(page):
 
 def witness_faults(page):
     specs = "\n".join(path.read_text(encoding="utf-8") for path in CRATES.glob("*/specs/*.antt"))
-    for group in WITNESS.findall(page):
+    for group in WITNESS.findall(flat(page)):
         for name in re.findall(r"`([\w-]+)`", group):
             if not re.search(rf"^pub {re.escape(name)} :", specs, re.M):
                 yield f"names the witness {name}, which is not there"
@@ -95,7 +110,9 @@ def promise_faults(call, unique):
 
 def call_faults(page):
     unique = "\n".join(path.read_text(encoding="utf-8") for path in CRATES.glob("*/specs/*.antt") if path.stem in ("Unique", "Promises"))
-    calls = [pair for cells in table(page, "Public calls of the engine") for pair in PATH.findall(cells[0])]
+    calls = [pair for _, text, _ in entries(section(page, "Public calls of the engine")) for pair in PATH.findall(text)]
+    if not calls:
+        yield "has no public call"
     for crate, path in calls:
         call = contracts.find(crate, path)
         yield from (f"has the call {crate}::{path}, which {fault}" for fault in (promise_faults(call, unique) if call else ()))
@@ -103,7 +120,7 @@ def call_faults(page):
 
 def engine_faults(page):
     sentence = next(sentence for _, sentence in numbered() if sentence.startswith(SHUT_OUT))
-    shut_out = {cells[0]: cells[1] for cells in table(page, "Engines that are shut out")}
+    shut_out = {name: " ".join(holders) for name, _, holders in entries(section(page, "Engines that are shut out"))}
     for engine in sentence.removeprefix(SHUT_OUT).rstrip(".").split("; "):
         if not any(pattern.search(shut_out.get(engine, "")) for pattern in (EDIT, WITNESS)):
             yield f"has no edit or witness for: {engine}"
@@ -117,7 +134,7 @@ def code_faults():
 
 def faults(page):
     yield from row_faults(page, SECTIONS, answer_faults)
-    for judge in (path_faults, unnamed_faults, run_faults, edit_faults, file_faults, witness_faults, call_faults, engine_faults):
+    for judge in (mark_faults, path_faults, unnamed_faults, run_faults, edit_faults, file_faults, witness_faults, call_faults, engine_faults):
         yield from (f"docs/PROMISES.md {fault}" for fault in judge(page))
     yield from code_faults()
 

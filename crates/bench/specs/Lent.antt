@@ -1,4 +1,4 @@
--- What the timed calls test of their loans, as one Bool each, and what it tells of what `modular` asks.
+-- What the timed calls test of their loans, as one Bool each, and that this gives what `modular` asks.
 use mathlib.Core.Path.{_≡_, refl, sym, ap, _∙_}
 use mathlib.Core.Bool.{Bool, true, _&&_, cond}
 use mathlib.Core.List.{List}
@@ -17,7 +17,7 @@ use Rattle.modular.specs.Loans.{Modulus}
 unfoldable pub isModulus : ℕ → Bool
 isModulus q = leb 16 q && leb q 1048576 && eqb (q % 2) 0
 
--- what the range check tells of a key
+-- the range check of a key
 unfoldable pub bigResidues : ℕ → List ℤ → Bool
 bigResidues q key = isModulus q && every (isResidue (q * q)) key
 

@@ -60,7 +60,7 @@ module _ (call : List ℤ) (at : ℕ) where
   pub count-within : length xs / 3 ≤ 5200 → length xs / 3 ≡ length (lentGates call at)
   count-within h = rw (fitting-within 5200 (gatesOf xs) (omega (arith, length-gates xs))) (sym (length-gates xs))
 
-  -- what it tells that there is a gate i: that there was room for them
+  -- where there is a gate i, there was room for all
   fitted : {i : ℕ} → i < length (lentGates call at) → (lentGates call at ≡ gatesOf xs) × (length (gatesOf xs) ≤ 5200)
   fitted {i} h = by-room (leb (length (gatesOf xs)) 5200) refl
     where

@@ -62,7 +62,7 @@ module _ {A : Type 0} where
   unfolding fitting
   fitting-over room xs h = rw (lt-leb (length xs) room h)
 
-  -- what it tells that n entries were taken of xs into the buffer found, and out is left: the list at its front, the rest as found
+  -- n entries of xs were taken into the buffer found, and out is left: the list stands at its front, the rest is as found
   abbrev pub Took : List A → List A → ℕ → List A → Type 0
   Took xs found n out =
       (n ≡ length (fitting (length found) xs)) × (out ≡ front (fitting (length found) xs) found) × CountIn n out × (length out ≡ length found)

@@ -1,4 +1,4 @@
-// The checks of a circuit's gates, counts and bounds: document 01's *Circuits*. What each tells is defined in the crate circuit.
+// The checks of a circuit's gates, counts and bounds: document 01's *Circuits*. What each answers is defined in the crate circuit.
 ghost use mathlib.Core.Path.{_≡_};
 ghost use mathlib.Core.Bool.{not};
 ghost use Prim.Native.Nat.{_≤_, _+_};

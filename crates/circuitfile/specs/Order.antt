@@ -1,4 +1,4 @@
--- The file's own order of refusals: what each end of it answers, and what it tells that no row of the head applies.
+-- The file's own order of refusals: what each end of it answers, and what follows when no row of the head applies.
 use mathlib.Core.Path.{_≡_, refl, sym, ap, ap₂, _∙_}
 use mathlib.Core.Logic.{_≢_}
 use mathlib.Core.Bool.{Bool, true, false, not, cond, _&&_}

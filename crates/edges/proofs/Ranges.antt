@@ -1,4 +1,4 @@
--- What the run-time tests tell: of a test that was denied twice, of a product of small numbers, and of the front of a list. Assumes nothing.
+-- What the proofs take from the tests at run time: a test denied twice, a product of small numbers, and the front of a list. Assumes nothing.
 use mathlib.Core.Path.{_≡_, sym, _∙_}
 use mathlib.Core.Bool.{Bool, true, false, not}
 use mathlib.Core.List.{List}

@@ -1,4 +1,4 @@
--- What the tests at run time answer (`guard`), and what their answers tell. Assumes nothing.
+-- What the tests at run time answer (`guard`), and what follows from their answers. Assumes nothing.
 use mathlib.Core.Path.{_≡_, refl, ap}
 use mathlib.Core.Bool.{Bool, true, false, cond, _&&_}
 use mathlib.Core.List.{List, [], _∷_}

@@ -1,4 +1,4 @@
--- What the number 0 tells of the loans of XOR, NOT and AND: every test is false, so that the functions which these calls work by may be called.
+-- What follows for the loans of XOR, NOT and AND when the number is 0: every test is false, so the functions that do the work may be called.
 use mathlib.Core.Path.{_≡_, refl}
 use mathlib.Core.Bool.{true}
 use mathlib.Core.List.{List}

@@ -1,5 +1,5 @@
 -- What the proofs of several calls share: what a `_number` function takes from its first two tests, what a call leaves in its answer and in a
--- buffer where it refuses and where it does not, and the sum that entry 0 of a ciphertext and row 0 of a switching key are the residues of.
+-- buffer where it refuses and where it does not, and the sum whose residue is entry 0 of a ciphertext, and an entry of row 0 of a switching key.
 use mathlib.Core.Path.{_≡_, sym, _∙_, ap₂}
 use mathlib.Core.Bool.{false}
 use Prim.Native.Nat.{ℕ, _≤_}

@@ -1,5 +1,5 @@
 -- The test of `range::all_below` by top bits, bit 63 of a word. Modulo 2^64, x + h has no top bit and x − h has it exactly where x is
--- a residue of 2·h (`tops`); and the numbers that a pass keeps, the `or` of all x + h and the `and` of all x − h, say so of every entry
+-- a residue of 2·h (`tops`); and the numbers that a pass keeps, the bitwise or of all x + h and the bitwise and of all x − h, say so of every entry
 -- that it passed (`Parted`).
 use mathlib.Core.Path.{_≡_, refl, sym, ap, ap₂, _∙_}
 use mathlib.Core.Bool.{Bool, true, false, _&&_, and-true, and-false}
@@ -44,7 +44,7 @@ residue-mag h x = let e : 2 * h / 2 ≡ h = omega arith in rw e (range-mag h x)
 abbrev pub lowHigh : ℕ → ℕ → Bool
 lowHigh y z = ltb y top && leb top z
 
--- it is a test t where t tells both when it holds and one of the two when it fails
+-- it is t, for any test t that gives both when it holds, and that not both hold when it fails
 lowHigh-is : (t : Bool) (y z : ℕ) → (t ≡ true → (y < top) × (top ≤ z)) → (t ≡ false → y < top → z < top)
     → lowHigh y z ≡ t
 lowHigh-is true y z holds fails = and-both (lt-ltb y top (holds refl .0)) (le-leb top z (holds refl .1))
@@ -66,7 +66,7 @@ pub tops : (h y z : ℕ) (x : ℤ) → 0 < h → h ≤ 4611686018427387904 → m
     → y ≡ (ofZ w64 x + h) % words → (z + 2 * h) % words ≡ y → lowHigh y z ≡ isResidue (2 * h) x
 tops h y z x low high fits zfits ey ez = tops-mag h y z x low high fits zfits ey ez ∙ sym (residue-mag h x)
 
--- an `or` has no top bit where neither of the two has one, and an `and` has it where both have
+-- a bitwise or has no top bit where neither of the two has one, and a bitwise and has it where both have
 or-top : (a b : ℕ) → ltb (bitOr a b) top ≡ (ltb a top && ltb b top)
 or-top a b = by-tests (ltb a top) (ltb b top) refl refl
   where

@@ -1,4 +1,4 @@
--- What the test for residues, which the calls make, tells of what this crate's functions ask of their loans.
+-- The calls' own test for residues gives what this crate's functions ask of their loans.
 use mathlib.Core.Path.{_≡_}
 use mathlib.Core.Bool.{true}
 use mathlib.Core.List.{List}

@@ -1,4 +1,4 @@
--- What it says of a list W that it is a switching key built for s with errors within F, and that this is exactly what the maker
+-- What it means that a list W is a switching key built for s with errors within F, and that this is exactly what the maker
 -- writes: from s, any masks that are residues of q², and any errors fj of size at most F.
 use mathlib.Core.Path.{_≡_, refl, sym, ap, ap₂, _∙_}
 use mathlib.Core.Bool.{true, false}

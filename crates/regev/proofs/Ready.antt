@@ -1,4 +1,4 @@
--- What the number 0 tells of the loans of encryption and of decryption: what `encrypt_into` and `decrypt_bit` ask.
+-- What follows for the loans of encryption and of decryption when the number is 0: all that `encrypt_into` and `decrypt_bit` ask.
 use mathlib.Core.Path.{_≡_, refl, sym, _∙_}
 use mathlib.Core.Bool.{true}
 use mathlib.Core.List.{List, [], _∷_}

@@ -1,4 +1,4 @@
--- Whether a whole number lies in a range, by tests against both ends, and what that tells. Assumes nothing.
+-- Whether a whole number lies in a range, by tests against both ends, and what follows from the answer. Assumes nothing.
 use mathlib.Core.Path.{_≡_, sym}
 use mathlib.Core.Bool.{Bool, true, false, _&&_, and-true, and-eq-true-iff, true≢false}
 use Prim.Native.Nat.{ℕ, _≤_}
@@ -21,7 +21,7 @@ isWord x = inside (pos 0) (pos 4294967295) x
 abbrev pub isNarrow : ℤ → Bool
 isNarrow x = inside (negsuc 2147483647) (pos 2147483647) x
 
--- ---- what it tells
+-- ---- what follows
 
 -- x is from low to high, both from 0 up
 pub record UpFrom (low high : ℕ) (x : ℤ) : Type 0 where

@@ -222,7 +222,7 @@ fn digits(block: &mut [u8], c: Cursor) -> Unsigned
     ended(s.at, s.end, size, false)
 }
 
-// What `decimal` answers.
+// What `digits` answers.
 fn ended(at: usize, end: usize, size: u64, good: bool) -> Unsigned
     ensures { λ r. ⌜ (r .cursor .at ≡ at) × (r .cursor .end ≡ end) ⌝ }
 {

@@ -23,7 +23,7 @@ use Rattle.modular.specs.Loans.{Modulus, UpTo, square}
 use Rattle.modular.specs.Residues.{residues-upto}
 use Rattle.keys.specs.Chain.{params-modulus}
 
--- ---- what success tells
+-- ---- what holds where the number is 0
 
 -- a row, and the others
 one-more : (n m : ℕ) → 1 ≤ n → n * m ≡ m + (n - 1) * m

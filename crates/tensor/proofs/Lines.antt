@@ -1,5 +1,5 @@
 -- A row of the tensor as a line: for a fixed x, 2·x·y/q rounded is (slope·y + 2^41 + q)/2^42 rounded down (`line-rounds`), where the slope is
--- x·2^42 over q/2, at most 2 off: so it is had from 2^62 divided by q/2 (`shifted-slope`). That it is at most q/2 in size follows from the
+-- x·2^42 over q/2, at most 2 off: so it comes from 2^62 divided by q/2 (`shifted-slope`). That it is at most q/2 in size follows from the
 -- sizes alone (`whole-small`). Assumes nothing.
 use mathlib.Core.Path.{_≡_, sym, ap, _∙_}
 use mathlib.Core.Bool.{true}

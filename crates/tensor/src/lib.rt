@@ -11,7 +11,7 @@ ghost use Rattle.modular.specs.Loans.{Modulus};
 ghost use Rattle.tensor.specs.Lines.{reciprocalOf};
 use modular::residue::Residue;
 
-// The row of the tensor for one entry x on the left. The quotients 2·x·y/q lie on a line over y: its slope, with 42 binary places, is had by a
+// The row of the tensor for one entry x on the left. The quotients 2·x·y/q lie on a line over y: its slope, with 42 binary places, takes a
 // product and a shift, and the row takes no division. The base holds the half of rounding, and q more, which the slope's error does not reach.
 fn fill_row(q: u32, x: i64, reciprocal: i64, d: &[i64], out: &mut [i64])
     requires { ⌜ Modulus q × (isResidue q x ≡ true) × (reciprocal ≡ pos (reciprocalOf q)) × (every (isResidue q) (now d) ≡ true) × (length (now out) ≡ length (now d)) ⌝ }

@@ -124,7 +124,7 @@ pub data Left : Nf → Type 0 where
 abbrev pub Vanishes : Nf → Type 0
 Vanishes p = ite (isZero p) (λ _. Unit {0}) (λ _. Left p)
 
--- ---- The normal form has the expression's value: `f-ok` says that the function f does what its comment says
+-- ---- The normal form has the expression's value: the law with the name of a function and -ok behind it says that the function does what its comment says
 
 -- two polynomials that begin with one atom are added part by part
 add-vars : (x p q r s : ℤ) {u v : ℤ} → u ≡ p +ℤ r → v ≡ q +ℤ s → x *ℤ u +ℤ v ≡ (x *ℤ p +ℤ q) +ℤ (x *ℤ r +ℤ s)

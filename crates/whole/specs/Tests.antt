@@ -1,4 +1,4 @@
--- Tests, as Bool: what it tells that a conjunction or a disjunction of two is true or false; the tests `ltZ`, `leZ` and `eqZ`
+-- Tests, as Bool: what follows when a conjunction or a disjunction of two is true or false; the tests `ltZ`, `leZ` and `eqZ`
 -- of whole numbers against the facts that they decide, both ways.
 use mathlib.Core.Path.{_≡_, refl, sym, ap, _∙_, subst}
 use mathlib.Core.Bool.{Bool, true, false, not, _&&_, _||_, true≢false}

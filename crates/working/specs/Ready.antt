@@ -1,4 +1,4 @@
--- What it tells of the loans that evaluation refuses nothing, as far as the gates are worked by it.
+-- What follows for the loans when evaluation refuses nothing, as far as working the gates needs it.
 use mathlib.Core.Path.{_≡_}
 use mathlib.Core.Bool.{true, false}
 use mathlib.Core.List.{List}

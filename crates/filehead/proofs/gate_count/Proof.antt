@@ -1,4 +1,4 @@
--- `head::gate_count` is the field of `fileGateCount`.
+-- `filehead::gate_count` is the field of `fileGateCount`.
 use Rattle.circuitfile.specs.File.{fileGateCount}
 use borrow.Author.Needs.{needs}
 use Rattle.filehead.proofs.gate_count.Statement.{statement}

@@ -1,4 +1,4 @@
--- `head::head_number` gives the number of the first row of the head that applies: the first by its test, and the others by the chain of `row`, last row first.
+-- `filehead::head_number` gives the number of the first row of the head that applies: the first by its test, and the others by the chain of `row`, last row first.
 use borrow.Author.Tests.{lt-ltb, le-ltb}
 use Rattle.refusal.specs.First.{firstOf}
 use Rattle.scheme.specs.Passed.{params-is, differs-is}

@@ -1,4 +1,4 @@
--- `head::inputs` is the field of `fileInputs`.
+-- `filehead::inputs` is the field of `fileInputs`.
 use Rattle.circuitfile.specs.File.{fileInputs}
 use borrow.Author.Needs.{needs}
 use Rattle.filehead.proofs.inputs.Statement.{statement}

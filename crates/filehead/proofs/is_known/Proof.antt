@@ -1,4 +1,4 @@
--- `head::is_known` compares the mark's three bytes and the version, as `isKnown` does.
+-- `filehead::is_known` compares the mark's three bytes and the version, as `isKnown` does.
 use Rattle.circuitfile.specs.File.{isKnown}
 use borrow.Author.Needs.{needs}
 use Rattle.filehead.proofs.is_known.Statement.{statement}

@@ -1,4 +1,4 @@
--- `head::params` is the five fields of `fileParams`.
+-- `filehead::params` is the five fields of `fileParams`.
 use Rattle.circuitfile.specs.File.{fileParams}
 use borrow.Author.Needs.{needs}
 use Rattle.filehead.proofs.params.Statement.{statement}

@@ -1,4 +1,4 @@
--- `key::check_key` answers the number that `key_number` ensures.
+-- `keys::check_key` answers the number that `key_number` ensures.
 use borrow.Author.Needs.{needs}
 use Rattle.scheme.specs.Calls.{keyCheckAnswer}
 use Rattle.keys.proofs.check_key.Statement.{statement}

@@ -1,5 +1,5 @@
--- `cipher::decrypt` answers the number that `decrypt_number` ensures, and where it is 0 the bit that `decrypt_bit` does, of which what it
--- asks is in `DecryptReady`.
+-- `regev::decrypt` answers the number that `decrypt_number` ensures, and where that is 0 the bit that `decrypt_bit` ensures;
+-- `DecryptReady` gives what that asks.
 use mathlib.Core.Path.{_≡_, sym, _∙_}
 use borrow.Author.Needs.{needs}
 use Rattle.refusal.specs.First.{firstOf, doneOr, doneOr-refused}

@@ -1,4 +1,4 @@
--- `cipher::decrypt_bit` is `decrypt`: d is [<s,c>]q by what `inner_product` and `Residue::of` ensure, at most q/2 in size, so that 4d fits,
+-- `regev::decrypt_bit` is `decrypt`: d is [<s,c>]q by what `inner_product` and `Residue::of` ensure, at most q/2 in size, so that 4d fits,
 -- and 4|d| is above q exactly where 4d is above q or below −q.
 use mathlib.Core.Path.{_≡_, ap, _∙_}
 use mathlib.Core.List.{List}

@@ -1,4 +1,4 @@
--- `cipher::decrypt_number` gives the number of the first row that applies, by what each test ensures.
+-- `regev::decrypt_number` gives the number of the first row that applies, by what each test ensures.
 use mathlib.Core.Path.{_≡_, sym, _∙_}
 use mathlib.Core.Bool.{false}
 use borrow.Author.Needs.{needs}

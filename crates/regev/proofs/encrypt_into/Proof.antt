@@ -1,4 +1,4 @@
--- `cipher::encrypt_into` writes `encrypt`: entry 0 is [b·q/2 − <s',a> + e]q by what `inner_product` and `Residue::of` ensure, where no number
+-- `regev::encrypt_into` writes `encrypt`: entry 0 is [b·q/2 − <s',a> + e]q by what `inner_product` and `Residue::of` ensure, where no number
 -- on the way wraps (`masked`), and `copy` puts the mask behind it (`put-to-end`).
 use mathlib.Core.Path.{_≡_, refl, ap, ap₂, _∙_}
 use mathlib.Core.List.{List, [], _∷_, _++_}

@@ -1,4 +1,4 @@
--- `cipher::encrypt_number` gives the number of the first row that applies, by what each test ensures.
+-- `regev::encrypt_number` gives the number of the first row that applies, by what each test ensures.
 use mathlib.Core.Path.{_≡_, sym, _∙_}
 use mathlib.Core.Bool.{false}
 use native.Mathlib.Omega.{arith}

@@ -1,5 +1,5 @@
 -- `answer_all` ends: the measure is what is left of CALLS. The invariant: the four lent slices keep their lengths; that a call's numbers
--- lie within the store is what `read::call` ensures.
+-- lie within the store is what `calls::read::call` ensures.
 use Prim.Native.Nat.{_≤_, _-_}
 use mathlib.Core.Path.{_≡_}
 use native.Mathlib.Omega.{arith}

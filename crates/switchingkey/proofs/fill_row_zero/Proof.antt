@@ -1,4 +1,4 @@
--- `switching::fill_row_zero` fills the buffer with row 0 of a switching key. The invariant: the entries passed are those of row 0, the rest as found. Leans on
+-- `switchingkey::fill_row_zero` fills the buffer with row 0 of a switching key. The invariant: the entries passed are those of row 0, the rest as found. Leans on
 -- the laws of `Filled`, and on what `row_zero_entry` returns for a column (`entry-at`). The measure is what is left of the buffer. Assumes nothing.
 use mathlib.Core.Path.{_≡_, sym, _∙_}
 use Prim.Native.Nat.{_*_, _-_, _<_}

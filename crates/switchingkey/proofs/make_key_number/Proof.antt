@@ -1,4 +1,4 @@
--- `switching::make_key_number` gives the number of the first row that applies, by what each test ensures. That no length wraps follows from the parameters' ranges.
+-- `switchingkey::make_key_number` gives the number of the first row that applies, by what each test ensures. That no length wraps follows from the parameters' ranges.
 use mathlib.Core.Path.{_≡_, sym, _∙_}
 use mathlib.Core.Bool.{false}
 use Prim.Native.Nat.{_*_, _-_, _≤_}

@@ -1,6 +1,6 @@
--- `switching::make_switching_key` answers its number, and leaves the buffer as found where that is not 0, and the switching key where it is 0: row 0, which
--- `fill_row_zero` writes to the first n² entries, and then the masks, which `copy` writes to the others (`two-parts`). What the two ask is what success tells
--- (`make-key-ready`). Assumes nothing.
+-- `switchingkey::make_switching_key` answers its number, and leaves the buffer as found where that is not 0, and the switching key where it is 0: row 0, which
+-- `fill_row_zero` writes to the first n² entries, and then the masks, which `copy` writes to the others (`two-parts`). What the two ask
+-- holds where the number is 0 (`make-key-ready`). Assumes nothing.
 use mathlib.Core.Path.{_≡_, sym, ap, _∙_}
 use mathlib.Core.List.{List, _++_}
 use Prim.Native.Nat.{_-_}

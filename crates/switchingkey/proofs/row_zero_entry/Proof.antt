@@ -1,4 +1,4 @@
--- `switching::row_zero_entry` returns [q·su·sv − <s',mask column j> + error]Q for j = u·n+v. No step wraps: q·su·sv is at most 2^44 in size for any u and v, since no entry of
+-- `switchingkey::row_zero_entry` returns [q·su·sv − <s',mask column j> + error]Q for j = u·n+v. No step wraps: q·su·sv is at most 2^44 in size for any u and v, since no entry of
 -- the key is larger than the sum of its sizes (`entry-size`), and the inner product, which is `inner_column`'s of s without s0, at most 2^51 (`inner-size`).
 -- Assumes nothing.
 use mathlib.Core.Path.{_≡_, ap, ap₂, _∙_}

@@ -1,4 +1,4 @@
--- `work::make_wire` makes what the gate's kind says, each kind by what its function of the ciphertext crate ensures.
+-- `working::make_wire` makes what the gate's kind says, each kind by what its function of the ciphertext crate ensures.
 use mathlib.Core.Path.{sym, _∙_}
 use borrow.Author.Needs.{needs}
 use Rattle.circuit.specs.Circuits.{byKind}

@@ -1,4 +1,4 @@
--- `work::work` lends `work_gates` the first n entries of two arrays of 1,024, and ensures what that does.
+-- `working::work` lends `work_gates` the first n entries of two arrays of 1,024, and ensures what that does.
 use mathlib.Core.Path.{_≡_, _∙_}
 use Prim.Native.Nat.{ℕ, _-_, _≤_}
 use native.Mathlib.Nat.{sub-zero}

@@ -1,4 +1,4 @@
--- `work::work_gate` writes what the gate makes over its own wire and leaves the others as found. A gate that is not wrong has its operands before its own
+-- `working::work_gate` writes what the gate makes over its own wire and leaves the others as found. A gate that is not wrong has its operands before its own
 -- wire (`Below`), so that they are ciphertexts (`Operand`), and the wire that begins at j·n is row j of the buffer (`getD-cut`). Leans on what `copy` and
 -- `make_wire` ensure.
 use mathlib.Core.Path.{_≡_, sym, ap, _∙_}

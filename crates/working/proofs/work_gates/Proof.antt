@@ -1,4 +1,4 @@
--- `work::work_gates` makes the buffer the wires of the evaluation. The invariant is `Worked`: after g gates the buffer begins with the wires of the run over
+-- `working::work_gates` makes the buffer the wires of the evaluation. The invariant is `Worked`: after g gates the buffer begins with the wires of the run over
 -- those gates, and the rest is as found; `own` is the wire of gate g. The measure is what is left of the gates. Leans on what `work_gate` ensures.
 use mathlib.Core.Path.{_≡_, refl, sym, ap, _∙_}
 use mathlib.Core.Bool.{false}

@@ -1,4 +1,4 @@
--- `range::all_big_residues` tells whether every entry is a residue of q²: what `all_below` tells of q²/2, since q² is even, and it fits by `Square`.
+-- `range::all_big_residues` tells whether every entry is a residue of q²: as `all_below` does for q²/2, since q² is even, and it fits by `Square`.
 use mathlib.Core.Path.{sym, ap, _∙_}
 use Prim.Native.Nat.{ℕ}
 use native.Mathlib.Omega.{arith}

@@ -1,4 +1,4 @@
--- `range::all_residues` tells whether every entry is a residue of q: what `all_below` tells of q/2, since q is even.
+-- `range::all_residues` tells whether every entry is a residue of q: as `all_below` does for q/2, since q is even.
 use mathlib.Core.Path.{sym, ap, _∙_}
 use Prim.Native.Nat.{ℕ}
 use Rattle.whole.specs.Lists.{every}

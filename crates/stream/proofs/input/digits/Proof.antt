@@ -1,4 +1,4 @@
--- `stream::input::decimal` answers a cursor within the block, its size never wraps, and it ends: the measure is what is left of MOST. The
+-- `stream::input::digits` answers a cursor within the block, its size never wraps, and it ends: the measure is what is left of MOST. The
 -- invariant says of what is left and of the block what that of `skip` says, and nothing of the size, since the test against ROOM stands
 -- before each digit is taken. Assumes nothing.
 use Prim.Native.Nat.{_≤_, _-_}

@@ -1,4 +1,4 @@
--- `stream::input::number` answers what `negative` or `positive` makes of the digits, at the cursor that `decimal` left, or no number at the
+-- `stream::input::number` answers what `negative` or `positive` makes of the digits, at the cursor that `digits` left, or no number at the
 -- cursor that `skip` left. Assumes nothing.
 use native.Mathlib.Omega.{arith}
 use Rattle.stream.proofs.input.number.Statement.{statement}

@@ -1,4 +1,4 @@
--- `bench::make_bench_key` returns the bench key, or zeros where its number is not 0: by what `bench_number` ensures, and where that is 0 by what success tells
+-- `bench::make_bench_key` returns the bench key, or zeros where its number is not 0: by what `bench_number` ensures, and where that is 0 by what then holds
 -- (`bench-ready`) and the four rows of the key (`switching-rows`). Assumes nothing.
 use mathlib.Core.Path.{_≡_, sym, _∙_}
 use native.Mathlib.Omega.{arith}
