@@ -30,8 +30,21 @@ class Function(NamedTuple):
         """Whether a line of its promise speaks of what it returns."""
         return any(re.search(r"λ (\w+)\..*(?<!\w)\1(?!\w)", line) for line in self.ensures)
 
+    def promise(self):
+        """The record of a promise that its contract cites, with what it is given, or nothing."""
+        for line in self.ensures:
+            found = re.search(r"⌜ (\w+) (.*) ⌝", line)
+            if found and found[1] in PROMISES:
+                return found[1], arguments(found[2])
+        return None, []
+
     def definition_of(self, what):
         """The definition that its promise equates with what it returns, `r`, or with a buffer at exit."""
+        name, given = self.promise()
+        if name:
+            parameters, fields = PROMISES[name]
+            names = [parameter for parameter, argument in zip(parameters, given) if argument == what]
+            return next((fields[parameter] for parameter in names if parameter in fields), None)
         found = re.search(rf"⌜ {re.escape(what)} ≡ ([\w-]+)", "\n".join(self.ensures))
         return found and found[1]
 
@@ -40,6 +53,29 @@ def root_of(crate):
     """The text of a library's root."""
     path = CRATES / crate / "src" / "lib.rt"
     return path.read_text(encoding="utf-8") if path.exists() else ""
+
+
+def arguments(text):
+    """The arguments of an application, each without the parentheses around it."""
+    found, depth, start = [], 0, 0
+    for i, c in enumerate(text + " "):
+        depth += {"(": 1, ")": -1}.get(c, 0)
+        if c == " " and not depth:
+            found.append(text[start:i])
+            start = i + 1
+    return [word[1:-1] if word.startswith("(") else word for word in found if word]
+
+
+def promises():
+    """The records of promises in the crates' definitions: their parameters, and for each parameter that a field equates the definition."""
+    for path in sorted(CRATES.glob("*/specs/*.antt")):
+        for head, body in re.findall(r"^pub record (\w+ .*) : Type 0 where\n((?:  .*\n)+)", path.read_text(encoding="utf-8"), re.M):
+            name, _, telescope = head.partition(" ")
+            parameters = [p for group in re.findall(r"\(([^:()]+) :", telescope) for p in group.split()]
+            yield name, (parameters, dict(re.findall(r"^  pub [\w-]+ : (\w+) ≡ ([\w-]+)", body, re.M)))
+
+
+PROMISES = dict(promises())
 
 
 def functions():

@@ -104,12 +104,12 @@ def promise_faults(call, unique):
         definition = call.definition_of(what)
         if not definition:
             yield f"has no equation for {what}"
-        elif not re.search(rf"≡ {re.escape(definition)}\b", unique):
+        elif not re.search(rf"≡ {re.escape(definition)}\b|→ {call.promise()[0]}\b", unique):
             yield f"gives {what} by {definition}, of which no file Unique speaks"
 
 
 def call_faults(page):
-    unique = "\n".join(path.read_text(encoding="utf-8") for path in CRATES.glob("*/specs/*.antt") if path.stem in ("Unique", "Promises"))
+    unique = "\n".join(path.read_text(encoding="utf-8") for path in CRATES.glob("*/specs/*.antt") if path.stem == "Unique")
     calls = [pair for _, text, _ in entries(section(page, "Public calls of the engine")) for pair in PATH.findall(text)]
     if not calls:
         yield "has no public call"
