@@ -22,7 +22,7 @@ pub fn big_residue(q: u32, x: i64, text: &mut [u8], at: usize) -> usize
     requires { ⌜ Modulus q ⌝ }
     ensures { λ r. ⌜ Placed r (now (text .entry)) (now (text .exit)) ⌝ }
 {
-    print::one(text, at, BigResidue::of(x, q).value())
+    print::one(text, at, BigResidue::of(x, q).big_value())
 }
 
 // 3: round(a/q), of an a of at most 2^62 in size

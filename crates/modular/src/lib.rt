@@ -8,3 +8,4 @@ pub mod range;
 pub mod residue;
 pub mod round;
 mod size;
+pub mod wide;

@@ -1,8 +1,10 @@
 // Encryption and decryption: document 01's *Encrypt* and *Decrypt*. What each call answers and writes is defined in the crate scheme, and what encryption's
 // worker asks here. Every call takes arbitrary numbers and buffers and refuses bad ones by number; the functions that it works by stand beside it.
 ghost use mathlib.Core.Path.{_≡_};
-ghost use mathlib.Core.Bool.{true};
-ghost use Prim.Native.Nat.{_≤_};
+ghost use mathlib.Core.Bool.{true, cond};
+ghost use Prim.Native.Nat.{_+_, _*_, _≤_};
+ghost use lib.Dec.{ltb};
+ghost use lib.IntN.{natAbs};
 ghost use lib.ListN.{length};
 ghost use Rattle.whole.specs.Lists.{every};
 ghost use Rattle.whole.specs.Inner.{sizes};
@@ -89,12 +91,12 @@ fn decrypt_number(p: Params, s: &[i32], c: &[i64]) -> u32
     refusal::row(4, is_bad_key(p.l, s), six)
 }
 
-// 1 if the residue of <s,c> is more than q/4 in size, else 0.
-fn decrypt_bit(q: u32, s: &[i32], c: &[i64]) -> u32
-    requires { ⌜ Modulus q × (length (now s) ≡ length (now c)) × (sizes (now s) ≤ 4096) × (every (isResidue q) (now c) ≡ true) ⌝ }
-    ensures { λ r. ⌜ r ≡ decrypt q (now (s .entry)) (now (c .entry)) ⌝ }
+// 1 if d is more than q/4 in size, else 0.
+fn bit_of(d: Residue, q: u32) -> u32
+    requires { ⌜ Modulus q × (2 * natAbs (d .0) ≤ q) ⌝ }
+    ensures { λ r. ⌜ r ≡ cond (ltb q (4 * natAbs (d .0))) 1 0 ⌝ }
 {
-    let d = Residue::of(inner_product(s, c), q).value();
+    let d = d.value();
     let modulus = q as i64;
     if modulus < 4 * d {
         return 1;
@@ -103,6 +105,14 @@ fn decrypt_bit(q: u32, s: &[i32], c: &[i64]) -> u32
         return 1;
     }
     0
+}
+
+// The bit that the residue of <s,c> tells.
+fn decrypt_bit(q: u32, s: &[i32], c: &[i64]) -> u32
+    requires { ⌜ Modulus q × (length (now s) ≡ length (now c)) × (sizes (now s) ≤ 4096) × (every (isResidue q) (now c) ≡ true) ⌝ }
+    ensures { λ r. ⌜ r ≡ decrypt q (now (s .entry)) (now (c .entry)) ⌝ }
+{
+    bit_of(Residue::of(inner_product(s, c), q), q)
 }
 
 // Decrypts a ciphertext, and answers the bit. Refusals 1, 3, 4, 6.

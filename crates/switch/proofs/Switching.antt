@@ -1,15 +1,13 @@
 -- The switched entry [round(S/q)]q of a sum S depends on S modulo Q = q² alone, and where the entries of a switch lie.
 use mathlib.Core.Path.{_≡_, sym, ap, _∙_}
-use mathlib.Core.List.{List, [], _∷_}
+use mathlib.Core.List.{List, []}
 use Prim.Native.Nat.{ℕ, _*_, _<_}
+use native.Mathlib.Nat.{mul-pos}
 use lib.IntN.{ℤ, pos, _+ℤ_, _*ℤ_}
-use lib.Signed.{quotZ, remZ}
 use lib.ListN.{length, getD, take, drop, length-map}
 use Rattle.whole.specs.Laws.{*ℤ-assoc}
-use Rattle.whole.specs.Ring.{by-ring, quote}
-use Rattle.whole.specs.Rem.{quot-rem}
 use Rattle.whole.specs.Round.{round, round-turn}
-use Rattle.whole.specs.Centred.{centred, centred-turn}
+use Rattle.whole.specs.Centred.{centred, centred-turn, Congruent, centred-congruent}
 use Rattle.whole.specs.Lists.{cut, length-cut, getD-cut, getD-map}
 use Rattle.scheme.specs.Arithmetic.{keyRows, switchEntry, switch}
 
@@ -20,15 +18,11 @@ entry-turn q S k h =
     ∙ ap (centred q) (round-turn S (k *ℤ pos q) q h)
     ∙ centred-turn q (round S q) k h
 
--- the high part of a sum may be reduced first
-pub entry-reduced : (q : ℕ) (hi lo b : ℤ) → 0 < q → centred q (round (remZ hi (pos (q * q)) *ℤ b +ℤ lo) q) ≡ centred q (round (hi *ℤ b +ℤ lo) q)
-entry-reduced q hi lo b h =
-    let Q : ℤ = pos (q * q) in
-    sym (ap (λ (x : ℤ). centred q (round x q)) (whole (quotZ hi Q) (remZ hi Q) Q (quot-rem hi (q * q)))
-    ∙ entry-turn q (remZ hi Q *ℤ b +ℤ lo) (quotZ hi Q *ℤ b) h)
-  where
-    whole : (k r Q : ℤ) → hi ≡ k *ℤ Q +ℤ r → hi *ℤ b +ℤ lo ≡ r *ℤ b +ℤ lo +ℤ k *ℤ b *ℤ Q
-    whole k r Q e = rw e (by-ring (k ∷ r ∷ Q ∷ b ∷ lo ∷ []) (search quote depth 100 fits 100000) tt)
+-- so the sum may be reduced modulo Q first
+pub entry-reduced : (q : ℕ) (S : ℤ) → 0 < q → centred q (round (centred (q * q) S) q) ≡ centred q (round S q)
+entry-reduced q S h =
+    let c : Congruent (q * q) S (centred (q * q) S) = centred-congruent (q * q) S (mul-pos h h) in
+    sym (ap (λ (x : ℤ). centred q (round x q)) (c .off) ∙ entry-turn q (centred (q * q) S) (c .turns) h)
 
 -- a switch has n entries, and entry i is that of the row at i·w, with w = n²
 pub length-switch : (n q : ℕ) (W t : List ℤ) → length (switch n q W t) ≡ n

@@ -8,14 +8,9 @@ ghost use Rattle.whole.specs.Inner.{inner};
 ghost use Rattle.whole.specs.Lists.{every};
 ghost use Rattle.scheme.specs.Arithmetic.{isResidue, switchEntry, switch};
 ghost use Rattle.modular.specs.Loans.{Modulus, UpTo};
+use modular::big_residue::BigResidue;
 use modular::residue::Residue;
-use modular::round::round_quotient;
-
-// A whole number that can pass 64 bits: hi·2^20 + lo.
-struct Wide {
-    hi: i64,
-    lo: i64,
-}
+use modular::wide::Wide;
 
 // The exact sum of 16 products. The count is written out, so that the loop is unrolled whole.
 fn inner16(t: &[i64], row: &[i64]) -> i64
@@ -68,15 +63,12 @@ fn row_sum(t: &[i64], row: &[i64]) -> Wide
     }
 }
 
-// One switched entry: [round(S/q)]q for the exact S. Only S modulo Q matters, so that hi is reduced first.
+// One switched entry: [round(S/q)]q for the exact S. Only S modulo Q matters, so that S is reduced before it is rounded.
 pub fn switch_entry(q: u32, t: &[i64], row: &[i64]) -> Residue
     requires { ⌜ Modulus q × (length (now t) ≤ 1048576) × (length (now row) ≡ length (now t)) × (every (isResidue q) (now t) ≡ true) × (every (isResidue (q * q)) (now row) ≡ true) ⌝ }
     ensures { λ r. ⌜ r .0 ≡ switchEntry q (now (t .entry)) (now (row .entry)) ⌝ }
 {
-    let wide = q as i64;
-    let sum = row_sum(t, row);
-    let near = sum.hi % (wide * wide) * 1048576 + sum.lo;
-    Residue::of(round_quotient(near, q), q)
+    BigResidue::of_wide(row_sum(t, row), q).round(q)
 }
 
 // All n entries of the switch of t, from the n rows of n² entries of the switching key.

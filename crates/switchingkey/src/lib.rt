@@ -40,7 +40,7 @@ fn fill_row_zero(q: u32, s: &[i32], masks: &[i64], errors: &[i64], out: &mut [i6
 {
     let mut j = 0;
     while j < out.len() {
-        out[j] = row_zero_entry(q, s, masks, errors[j], j).value();
+        out[j] = row_zero_entry(q, s, masks, errors[j], j).big_value();
         j += 1;
     }
 }

@@ -45,8 +45,8 @@ loop-again c =
     let args = t .before .before .args in
     let j = t .before .loop .j in
     fill-step (t .before .loop .inv) _ (pos 0) (omega arith)
-    (toZ-ofZ (sfits-of (c .value .ok))
-    ∙ c .value .ensures
+    (toZ-ofZ (sfits-of (c .big-value .ok))
+    ∙ c .big-value .ensures
     ∙ entry-at (length (args .s .now)) (args .q) (args .s .now) (args .masks .now) (args .errors .now) j (omega arith) (error-is (c .before .before)) (c .before .row-zero-entry .ensures))
 
 same-length : tie.Need-same-length Inv-loop μ-loop

@@ -12,7 +12,7 @@ mul-centre : tie.Need-mul-centre
 mul-centre c = omega (arith, square (c .pre) .high)
 
 centre-requires : tie.Need-centre-requires
-centre-requires c κs = (square (c .pre) .positive, square (c .pre) .high)
+centre-requires c κs = (omega (arith, square (c .pre) .positive), omega (arith, square (c .pre) .high))
 
 returns : tie.Need-returns
 returns c = toZ-ofZ (sfits-of (c .centre .ok)) ∙ simp (toZ-ofZ, c .before .fits .x) at (c .centre .ensures)
