@@ -5,13 +5,13 @@ use mathlib.Core.List.{List, [], _∷_, _++_, map, flatMap}
 use Prim.Native.Nat.{ℕ, _+_, _*_}
 use lib.ListN.{take, set, replicate}
 use Rattle.whole.specs.Lists.{tabulate}
-use Rattle.refusal.specs.First.{firstOf, firstTrue, doneOr, someTrue}
+use Rattle.refusal.specs.First.{firstOf, placeOf, firstTrue, doneOr, someTrue}
 use Rattle.refusal.specs.Parameters.{inRange}
 use Rattle.scheme.specs.Arithmetic.{XOR-bound, AND-bound, NOT-bound, fits}
 use Rattle.scheme.specs.Calls.{badParams, differs, overBudget}
-use Rattle.circuit.specs.Circuits.{byKind, run, gateBound, wrongGate, wrongGates, boundsOf, overGates, badCounts, gateRows, placeOf}
-use Rattle.circuitfile.specs.File.{bigEndian, field, isKnown, fileParams, fileInputs, fileGateCount, fileGate, fileGates, fileInputBounds, fileBounds, headRows, fileGateRows, checkNumber, planNumber, filePlace, checkAnswer, planFileAnswer, fourBytes, planFileBuffer}
-use Rattle.circuitfile.specs.Text.{text, wordIN, wordXOR, wordAND, wordNOT, wordOK, wordREFUSED, decimalUpTo, decimal, wireLine, kindWord, wireLines, largestBound, okLine, refusedLine}
+use Rattle.circuit.specs.Circuits.{byKind, run, gateBound, wrongGate, wrongGates, boundsOf, overGates, badCounts, gateRows}
+use Rattle.circuitfile.specs.File.{bigEndian, field, isKnown, fileParams, fileInputs, fileGateCount, fileGate, fileGates, fileInputBounds, fileBounds, headRows, fileGateRows, checkRows, planFileRows, checkAnswer, planFileAnswer, fourBytes, planFileBuffer}
+use Rattle.circuitfile.specs.Text.{text, textRows, printed, textAnswer, textBuffer, wordIN, wordXOR, wordAND, wordNOT, wordOK, wordREFUSED, decimalUpTo, decimal, wireLine, kindWord, wireLines, largestBound, okLine, refusedLine}
 
 abbrev exampleFile : List ℕ
 exampleFile =
@@ -35,18 +35,18 @@ exampleText =
     ∷ []
 
 pub example-holds : text exampleFile ≡ exampleText
-unfolding flatMap tabulate firstOf doneOr someTrue inRange XOR-bound AND-bound NOT-bound fits badParams differs overBudget byKind run gateBound wrongGate wrongGates boundsOf overGates badCounts gateRows bigEndian field isKnown fileParams fileInputs fileGateCount fileGate fileGates fileInputBounds fileBounds headRows fileGateRows checkNumber text wordIN wordXOR wordAND wordNOT wordOK decimalUpTo decimal wireLine kindWord wireLines largestBound okLine
+unfolding flatMap tabulate firstOf placeOf doneOr someTrue firstTrue inRange XOR-bound AND-bound NOT-bound fits badParams differs overBudget byKind run gateBound wrongGate wrongGates boundsOf overGates badCounts gateRows bigEndian field isKnown fileParams fileInputs fileGateCount fileGate fileGates fileInputBounds fileBounds headRows fileGateRows checkRows text wordIN wordXOR wordAND wordNOT wordOK decimalUpTo decimal wireLine kindWord wireLines largestBound okLine
 example-holds = refl
 
 -- planning on the same file, into a buffer that arrives with anything in it: 2, 2, 34, 34, 36
 pub example-planned : planFileBuffer exampleFile (replicate 20 255) ≡ flatMap (λ B. 0 ∷ 0 ∷ 0 ∷ B ∷ []) (2 ∷ 2 ∷ 34 ∷ 34 ∷ 36 ∷ [])
-unfolding flatMap tabulate firstOf doneOr someTrue inRange XOR-bound AND-bound NOT-bound fits badParams differs overBudget byKind run gateBound wrongGate wrongGates boundsOf overGates badCounts gateRows bigEndian field isKnown fileParams fileInputs fileGateCount fileGate fileGates fileInputBounds fileBounds headRows fileGateRows planNumber planFileBuffer fourBytes
+unfolding flatMap tabulate firstOf placeOf doneOr someTrue firstTrue inRange XOR-bound AND-bound NOT-bound fits badParams differs overBudget byKind run gateBound wrongGate wrongGates boundsOf overGates badCounts gateRows bigEndian field isKnown fileParams fileInputs fileGateCount fileGate fileGates fileInputBounds fileBounds headRows fileGateRows planFileRows planFileBuffer fourBytes
 example-planned = refl
 
 -- the same where the XOR of gate 2 has wire 3 on both sides, and on its right alone: 68, and 36
 pub example-operands : planFileBuffer (set exampleFile 37 3) (replicate 20 255) ∷ planFileBuffer (set (set exampleFile 35 0) 37 3) (replicate 20 255) ∷ []
     ≡ map (λ last. flatMap (λ B. 0 ∷ 0 ∷ 0 ∷ B ∷ []) (2 ∷ 2 ∷ 34 ∷ 34 ∷ last ∷ [])) (68 ∷ 36 ∷ [])
-unfolding flatMap tabulate firstOf doneOr someTrue inRange XOR-bound AND-bound NOT-bound fits badParams differs overBudget byKind run gateBound wrongGate wrongGates boundsOf overGates badCounts gateRows bigEndian field isKnown fileParams fileInputs fileGateCount fileGate fileGates fileInputBounds fileBounds headRows fileGateRows planNumber planFileBuffer fourBytes
+unfolding flatMap tabulate firstOf placeOf doneOr someTrue firstTrue inRange XOR-bound AND-bound NOT-bound fits badParams differs overBudget byKind run gateBound wrongGate wrongGates boundsOf overGates badCounts gateRows bigEndian field isKnown fileParams fileInputs fileGateCount fileGate fileGates fileInputBounds fileBounds headRows fileGateRows planFileRows planFileBuffer fourBytes
 example-operands = refl
 
 -- ---- the file with faults
@@ -65,45 +65,56 @@ cutFile = take 37 exampleFile
 
 -- REFUSED 10 0
 pub example-refused : text overBudgetFile ≡ 82 ∷ 69 ∷ 70 ∷ 85 ∷ 83 ∷ 69 ∷ 68 ∷ 32 ∷ 49 ∷ 48 ∷ 32 ∷ 48 ∷ 10 ∷ []
-unfolding tabulate firstOf firstTrue doneOr someTrue inRange XOR-bound AND-bound NOT-bound fits badParams differs overBudget byKind run gateBound wrongGate wrongGates boundsOf overGates badCounts gateRows placeOf bigEndian field isKnown fileParams fileInputs fileGateCount fileGate fileGates fileInputBounds fileBounds headRows fileGateRows checkNumber filePlace text wordREFUSED decimalUpTo decimal refusedLine
+unfolding tabulate firstOf placeOf firstTrue doneOr someTrue inRange XOR-bound AND-bound NOT-bound fits badParams differs overBudget byKind run gateBound wrongGate wrongGates boundsOf overGates badCounts gateRows bigEndian field isKnown fileParams fileInputs fileGateCount fileGate fileGates fileInputBounds fileBounds headRows fileGateRows checkRows text wordREFUSED decimalUpTo decimal refusedLine
 example-refused = refl
+
+-- the text in a lent buffer that has room for just it, and in one a byte short; and so of the text of a refusal
+pub example-lent : map (textAnswer exampleFile) (replicate 53 9 ∷ replicate 52 9 ∷ [] ∷ []) ++ map (textAnswer overBudgetFile) (replicate 13 9 ∷ replicate 12 9 ∷ [])
+    ≡ printed 0 53 ∷ printed 3 0 ∷ printed 3 0 ∷ printed 0 13 ∷ printed 3 0 ∷ []
+unfolding flatMap tabulate firstOf placeOf firstTrue doneOr someTrue inRange XOR-bound AND-bound NOT-bound fits badParams differs overBudget byKind run gateBound wrongGate wrongGates boundsOf overGates badCounts gateRows bigEndian field isKnown fileParams fileInputs fileGateCount fileGate fileGates fileInputBounds fileBounds headRows fileGateRows checkRows text wordIN wordXOR wordAND wordNOT wordOK wordREFUSED decimalUpTo decimal wireLine kindWord wireLines largestBound okLine refusedLine textRows textAnswer
+example-lent = refl
+
+-- two bytes more than the text are as found, and so is a buffer that is too short
+pub example-room : map (textBuffer exampleFile) (replicate 55 9 ∷ replicate 52 9 ∷ []) ≡ (exampleText ++ (9 ∷ 9 ∷ [])) ∷ replicate 52 9 ∷ []
+unfolding flatMap tabulate firstOf placeOf firstTrue doneOr someTrue inRange XOR-bound AND-bound NOT-bound fits badParams differs overBudget byKind run gateBound wrongGate wrongGates boundsOf overGates badCounts gateRows bigEndian field isKnown fileParams fileInputs fileGateCount fileGate fileGates fileInputBounds fileBounds headRows fileGateRows checkRows text wordIN wordXOR wordAND wordNOT wordOK wordREFUSED decimalUpTo decimal wireLine kindWord wireLines largestBound okLine refusedLine textRows textBuffer
+example-room = refl
 
 -- as it stands; 9 for gate 1, and 10 for gate 0
 pub example-checked : map checkAnswer (exampleFile ∷ wrongKind ∷ overBudgetFile ∷ []) ≡ 0 ∷ (9 * 65536 + 1) ∷ (10 * 65536) ∷ []
-unfolding tabulate firstOf firstTrue someTrue inRange XOR-bound AND-bound NOT-bound fits badParams differs overBudget byKind run gateBound wrongGate wrongGates boundsOf overGates badCounts gateRows placeOf bigEndian field isKnown fileParams fileInputs fileGateCount fileGate fileGates fileInputBounds fileBounds headRows fileGateRows checkNumber filePlace checkAnswer
+unfolding tabulate firstOf placeOf firstTrue someTrue inRange XOR-bound AND-bound NOT-bound fits badParams differs overBudget byKind run gateBound wrongGate wrongGates boundsOf overGates badCounts gateRows bigEndian field isKnown fileParams fileInputs fileGateCount fileGate fileGates fileInputBounds fileBounds headRows fileGateRows checkRows checkAnswer
 example-checked = refl
 
 -- 9 for gate 2, whose left is 259, and whose right is 256
 pub example-wide : map checkAnswer (set exampleFile 34 1 ∷ set exampleFile 36 1 ∷ []) ≡ replicate 2 (9 * 65536 + 2)
-unfolding tabulate firstOf firstTrue someTrue inRange XOR-bound AND-bound NOT-bound fits badParams differs overBudget byKind run gateBound wrongGate wrongGates boundsOf overGates badCounts gateRows placeOf bigEndian field isKnown fileParams fileInputs fileGateCount fileGate fileGates fileInputBounds fileBounds headRows fileGateRows checkNumber filePlace checkAnswer
+unfolding tabulate firstOf placeOf firstTrue someTrue inRange XOR-bound AND-bound NOT-bound fits badParams differs overBudget byKind run gateBound wrongGate wrongGates boundsOf overGates badCounts gateRows bigEndian field isKnown fileParams fileInputs fileGateCount fileGate fileGates fileInputBounds fileBounds headRows fileGateRows checkRows checkAnswer
 example-wide = refl
 
 -- another letter at each place of the mark, version 2 and version 257
 pub example-known : map checkAnswer (set exampleFile 0 72 ∷ set exampleFile 1 66 ∷ set exampleFile 2 85 ∷ set exampleFile 4 2 ∷ set exampleFile 3 1 ∷ []) ≡ replicate 5 (11 * 65536)
-unfolding tabulate firstOf firstTrue someTrue inRange XOR-bound AND-bound NOT-bound fits badParams differs overBudget byKind run gateBound wrongGate wrongGates boundsOf overGates badCounts gateRows placeOf bigEndian field isKnown fileParams fileInputs fileGateCount fileGate fileGates fileInputBounds fileBounds headRows fileGateRows checkNumber filePlace checkAnswer
+unfolding tabulate firstOf placeOf firstTrue someTrue inRange XOR-bound AND-bound NOT-bound fits badParams differs overBudget byKind run gateBound wrongGate wrongGates boundsOf overGates badCounts gateRows bigEndian field isKnown fileParams fileInputs fileGateCount fileGate fileGates fileInputBounds fileBounds headRows fileGateRows checkRows checkAnswer
 example-known = refl
 
 -- n is 1; no inputs; no gates, which is told before the length; a byte too many, and one too few; 22 bytes, which are told before the mark
 pub example-head : map checkAnswer (set exampleFile 6 1 ∷ set exampleFile 20 0 ∷ set exampleFile 22 0 ∷ (exampleFile ++ (0 ∷ [])) ∷ take 37 wrongKind ∷ take 22 (set exampleFile 0 72) ∷ [])
     ≡ (1 * 65536) ∷ (2 * 65536) ∷ (2 * 65536) ∷ (12 * 65536) ∷ (12 * 65536) ∷ (12 * 65536) ∷ []
-unfolding tabulate firstOf firstTrue someTrue inRange XOR-bound AND-bound NOT-bound fits badParams differs overBudget byKind run gateBound wrongGate wrongGates boundsOf overGates badCounts gateRows placeOf bigEndian field isKnown fileParams fileInputs fileGateCount fileGate fileGates fileInputBounds fileBounds headRows fileGateRows checkNumber filePlace checkAnswer
+unfolding tabulate firstOf placeOf firstTrue someTrue inRange XOR-bound AND-bound NOT-bound fits badParams differs overBudget byKind run gateBound wrongGate wrongGates boundsOf overGates badCounts gateRows bigEndian field isKnown fileParams fileInputs fileGateCount fileGate fileGates fileInputBounds fileBounds headRows fileGateRows checkRows checkAnswer
 example-head = refl
 
 -- planning them in a buffer of four bytes a wire
 pub example-answered : planFileAnswer exampleFile (replicate 20 255) ∷ planFileAnswer wrongKind (replicate 20 255) ∷ planFileAnswer overBudgetFile (replicate 20 255) ∷ []
     ≡ 0 ∷ (9 * 65536 + 1) ∷ (10 * 65536) ∷ []
-unfolding tabulate firstOf firstTrue someTrue inRange XOR-bound AND-bound NOT-bound fits badParams differs overBudget byKind run gateBound wrongGate wrongGates boundsOf overGates badCounts gateRows placeOf bigEndian field isKnown fileParams fileInputs fileGateCount fileGate fileGates fileInputBounds fileBounds headRows fileGateRows planNumber filePlace planFileAnswer
+unfolding tabulate firstOf placeOf firstTrue someTrue inRange XOR-bound AND-bound NOT-bound fits badParams differs overBudget byKind run gateBound wrongGate wrongGates boundsOf overGates badCounts gateRows bigEndian field isKnown fileParams fileInputs fileGateCount fileGate fileGates fileInputBounds fileBounds headRows fileGateRows planFileRows planFileAnswer
 example-answered = refl
 
 -- a refusal leaves the buffer as found
 pub example-left : planFileBuffer wrongKind (replicate 20 255) ≡ replicate 20 255
-unfolding tabulate firstOf firstTrue someTrue inRange XOR-bound AND-bound NOT-bound fits badParams differs overBudget byKind run gateBound wrongGate wrongGates boundsOf overGates badCounts gateRows placeOf bigEndian field isKnown fileParams fileInputs fileGateCount fileGate fileGates fileInputBounds fileBounds headRows fileGateRows planNumber planFileBuffer doneOr
+unfolding tabulate firstOf placeOf firstTrue someTrue inRange XOR-bound AND-bound NOT-bound fits badParams differs overBudget byKind run gateBound wrongGate wrongGates boundsOf overGates badCounts gateRows bigEndian field isKnown fileParams fileInputs fileGateCount fileGate fileGates fileInputBounds fileBounds headRows fileGateRows planFileRows planFileBuffer doneOr
 example-left = refl
 
 -- planning the same in a buffer that is a byte short: 3 comes before 9 and 10, and after 12
 pub example-order : planFileAnswer wrongKind (replicate 19 255) ∷ planFileAnswer overBudgetFile (replicate 19 255) ∷ planFileAnswer cutFile (replicate 19 255) ∷ []
     ≡ (3 * 65536) ∷ (3 * 65536) ∷ (12 * 65536) ∷ []
-unfolding tabulate firstOf firstTrue someTrue inRange XOR-bound AND-bound NOT-bound fits badParams differs overBudget byKind run gateBound wrongGate wrongGates boundsOf overGates badCounts gateRows placeOf bigEndian field isKnown fileParams fileInputs fileGateCount fileGate fileGates fileInputBounds fileBounds headRows fileGateRows planNumber filePlace planFileAnswer
+unfolding tabulate firstOf placeOf firstTrue someTrue inRange XOR-bound AND-bound NOT-bound fits badParams differs overBudget byKind run gateBound wrongGate wrongGates boundsOf overGates badCounts gateRows bigEndian field isKnown fileParams fileInputs fileGateCount fileGate fileGates fileInputBounds fileBounds headRows fileGateRows planFileRows planFileAnswer
 example-order = refl
 
 -- ---- the largest bound that fits: where q is a multiple of four, and where it is not

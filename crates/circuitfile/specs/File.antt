@@ -1,26 +1,28 @@
 -- Document 01, *Circuit file and printer*: the file's fields, its own order of refusals, and what the file check and planning
 -- answer and leave in the buffer of bounds. A file is a list of bytes.
+use mathlib.Core.Path.{_≡_}
 use mathlib.Core.Bool.{Bool, not, _&&_}
 use mathlib.Core.List.{List, [], _∷_, _++_, flatMap, foldl}
 use Prim.Native.Nat.{ℕ, _+_, _*_, _/_, _%_}
 use lib.Dec.{ltb, eqb}
-use lib.ListN.{length, getD, take, drop, replicate}
+use lib.ListN.{length, getD, replicate}
 use Rattle.whole.specs.Lists.{tabulate}
+use Rattle.refusal.specs.declared.Refusal.{Refusal}
 use Rattle.refusal.specs.declared.Params.{Params}
-use Rattle.refusal.specs.First.{Row, row, firstOf, doneOr}
+use Rattle.refusal.specs.First.{Row, row, firstOf, answerOf, doneOr}
 use Rattle.refusal.specs.Parameters.{params}
 use Rattle.scheme.specs.Calls.{badParams, differs}
 use Rattle.circuit.specs.declared.Gate.{Gate}
-use Rattle.circuit.specs.Circuits.{badCounts, boundsOf, gateRows, placeOf}
+use Rattle.circuit.specs.Circuits.{badCounts, boundsOf, gateRows}
 
 -- ---- the fields, big-endian
 
 unfoldable pub bigEndian : List ℕ → ℕ
 bigEndian bytes = foldl (λ x byte. 256 * x + byte) 0 bytes
 
--- the field of `width` bytes at the offset `at`
+-- the field of `width` bytes at the offset `at`; past the end of the file a byte is 0, and such a file is refused
 unfoldable pub field : List ℕ → ℕ → ℕ → ℕ
-field file at width = bigEndian (take width (drop at file))
+field file at width = bigEndian (tabulate width (λ i. getD file (at + i) 0))
 
 -- the mark GAT, and 16-bit version 1
 unfoldable pub isKnown : List ℕ → Bool
@@ -73,24 +75,23 @@ headRows file =
 unfoldable pub fileGateRows : List ℕ → List Row
 fileGateRows file = gateRows (fileParams file) (fileInputs file) (fileGates file) (fileInputBounds file)
 
-unfoldable pub checkNumber : List ℕ → ℕ
-checkNumber file = firstOf (headRows file ++ fileGateRows file)
+unfoldable pub checkRows : List ℕ → List Row
+checkRows file = headRows file ++ fileGateRows file
 
 -- planning gives 3 for its buffer's length, four bytes a wire, after the file's 12 and before 9
-unfoldable pub planNumber : List ℕ → List ℕ → ℕ
-planNumber file buffer =
-    firstOf (headRows file ++ (row 3 (differs (length buffer) (4 * (fileInputs file + fileGateCount file))) ∷ fileGateRows file))
-
-unfoldable pub filePlace : List ℕ → ℕ → ℕ
-filePlace file k = placeOf (fileParams file) (fileInputs file) (fileGates file) (fileInputBounds file) k
+unfoldable pub planFileRows : List ℕ → List ℕ → List Row
+planFileRows file buffer = headRows file ++ (row 3 (differs (length buffer) (4 * (fileInputs file + fileGateCount file))) ∷ fileGateRows file)
 
 -- ---- the answers: 65,536 times the number plus the place
 
+abbrev pub asOne : Refusal → ℕ
+asOne r = 65536 * r .number + r .place
+
 unfoldable pub checkAnswer : List ℕ → ℕ
-checkAnswer file = 65536 * checkNumber file + filePlace file (checkNumber file)
+checkAnswer file = asOne (answerOf (checkRows file))
 
 unfoldable pub planFileAnswer : List ℕ → List ℕ → ℕ
-planFileAnswer file buffer = 65536 * planNumber file buffer + filePlace file (planNumber file buffer)
+planFileAnswer file buffer = asOne (answerOf (planFileRows file buffer))
 
 -- four big-endian bytes
 unfoldable pub fourBytes : ℕ → List ℕ
@@ -98,4 +99,13 @@ fourBytes x = x / 16777216 % 256 ∷ x / 65536 % 256 ∷ x / 256 % 256 ∷ x % 2
 
 -- planning also writes every wire's bound
 unfoldable pub planFileBuffer : List ℕ → List ℕ → List ℕ
-planFileBuffer file buffer = doneOr (planNumber file buffer) (flatMap fourBytes (fileBounds file)) buffer
+planFileBuffer file buffer = doneOr (firstOf (planFileRows file buffer)) (flatMap fourBytes (fileBounds file)) buffer
+
+-- ---- the promises, which the contracts of the two calls cite, from C too
+
+pub record CheckPromise (file : List ℕ) (r : ℕ) : Type 0 where
+  pub answer : r ≡ checkAnswer file
+
+pub record PlanFilePromise (file buffer : List ℕ) (r : ℕ) (bounds : List ℕ) : Type 0 where
+  pub answer : r ≡ planFileAnswer file buffer
+  pub bounds-left : bounds ≡ planFileBuffer file buffer

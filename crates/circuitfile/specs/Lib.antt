@@ -12,5 +12,6 @@ pub mod Wires
 pub mod Digits
 pub mod Lines
 pub mod Wording
+pub mod Exact
 pub mod Unique
 pub mod Long

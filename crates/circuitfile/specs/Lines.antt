@@ -8,15 +8,16 @@ use native.Mathlib.Omega.{arith}
 use lib.Dec.{ltb}
 use lib.ListN.{length, getD, take, drop, length-append}
 use lib.Seq.{take-append-seam}
-use borrow.Author.Tests.{lt-ltb, le-ltb, lt-leb, le-leb}
+use borrow.Author.Tests.{lt-ltb, le-ltb}
 use Rattle.whole.specs.Lists.{tabulate, length-tabulate, getD-tabulate}
 use Rattle.refusal.specs.declared.Params.{Params}
 use Rattle.refusal.specs.declared.Refusal.{Refusal}
-use Rattle.refusal.specs.First.{doneOr-done, doneOr-refused}
+use Rattle.refusal.specs.First.{firstOf, placeOf, doneOr, areSingle, place-single, first-last, doneOr-done, doneOr-refused}
+use Rattle.refusal.specs.Order.{positionIn, order, position, inOrder, Foremost, first-foremost}
 use Rattle.circuit.specs.Circuits.{byKind}
 use Rattle.circuit.specs.Records.{kind-neither}
-use Rattle.circuitfile.specs.File.{field, fileInputs, fileGateCount, fileGate, fileParams, fileBounds, checkNumber}
-use Rattle.circuitfile.specs.Text.{wordIN, wordXOR, wordAND, wordNOT, wordOK, wordREFUSED, decimal, wireLine, kindWord, wireLines, okLine, refusedLine, largestBound, text, textAnswer, textBuffer}
+use Rattle.circuitfile.specs.File.{field, fileInputs, fileGateCount, fileGate, fileParams, fileBounds, checkRows}
+use Rattle.circuitfile.specs.Text.{wordIN, wordXOR, wordAND, wordNOT, wordOK, wordREFUSED, decimal, wireLine, kindWord, wireLines, okLine, refusedLine, largestBound, text, textRows, printed, textAnswer, textBuffer, TextPromise}
 use Rattle.circuitfile.specs.Order.{checkRefusal}
 use Rattle.circuitfile.specs.Wires.{length-bounds}
 use Rattle.circuitfile.specs.Digits.{decimal-few}
@@ -98,34 +99,50 @@ refused-line k at = pair-flat wordREFUSED k at
 -- ---- the text, by what the check answers
 
 module _ (file : List ℕ) {a : Refusal} (e : a ≡ checkRefusal file) where
-  number : a .number ≡ checkNumber file
-  unfolding checkRefusal
+  number : a .number ≡ firstOf (checkRows file)
   number = ap (λ (a : Refusal). a .number) e
 
   pub text-refused : a .number ≢ 0 → pairLine (wordREFUSED ++ (32 ∷ [])) (a .number) (a .place) ≡ text file
-  unfolding text checkRefusal
+  unfolding text
   text-refused h = refused-line (a .number) (a .place) ∙ rw e (sym (doneOr-refused _ _ (λ z. h (number ∙ z))))
 
   pub text-done : a .number ≡ 0 → wireLines file ++ okLine file ≡ text file
   unfolding text
   text-done z = sym (doneOr-done _ _ (sym number ∙ z))
 
--- ---- the buffer, and what the call answers
+-- ---- in a lent buffer
+
+-- the number is the first of the order that applies, and 0 exactly when none does; and the place is 0
+pub text-foremost : (file buffer : List ℕ) → Foremost (textRows file buffer) (textAnswer file buffer .number)
+unfolding positionIn order position inOrder textRows textAnswer
+text-foremost file buffer = first-foremost 0 (textRows file buffer) refl
+
+text-place : (file buffer : List ℕ) → placeOf (textRows file buffer) ≡ 0
+unfolding areSingle textRows
+text-place file buffer = place-single (textRows file buffer) refl
 
 module _ (file out : List ℕ) where
-  pub text-short : length out < length (text file) → (0 ≡ textAnswer file out) × (out ≡ textBuffer file out)
+  -- what the call answers and leaves, by its number
+  answered : {k : ℕ} → firstOf (textRows file out) ≡ k
+      → TextPromise file out (printed k (doneOr k (length (text file)) 0)) (doneOr k (text file ++ drop (length (text file)) out) out)
   unfolding textAnswer textBuffer
-  text-short h = let t = lt-leb (length (text file)) (length out) h in (rw t, rw t)
+  answered e = rw (sym e) (record { answer = rw (text-place file out); buffer-left = refl })
 
-  -- where the buffer has room for the text, the text stands at its front, and what is answered is its length
-  pub text-fits : length (text file) ≤ length out → (length (text file) ≡ textAnswer file out) × (text file ++ drop (length (text file)) out ≡ textBuffer file out)
-  unfolding textAnswer textBuffer
-  text-fits h = let t = le-leb (length (text file)) (length out) h in (rw t, rw t)
+  -- a buffer that is too short
+  pub text-short : length out < length (text file) → TextPromise file out (printed 3 0) out
+  unfolding textRows doneOr
+  text-short h = answered (first-last 3 _ ∙ rw (lt-ltb (length out) (length (text file)) h))
 
-  pub text-front : length (text file) ≤ length out → (textAnswer file out ≤ length (textBuffer file out)) × (take (textAnswer file out) (textBuffer file out) ≡ text file)
-  unfolding textAnswer textBuffer
+  -- where it has room for the text, the text stands at its front, and what is answered is its length
+  pub text-fits : length (text file) ≤ length out → TextPromise file out (printed 0 (length (text file))) (text file ++ drop (length (text file)) out)
+  unfolding textRows doneOr
+  text-fits h = answered (first-last 3 _ ∙ rw (le-ltb (length out) (length (text file)) h))
+
+  pub text-front : length (text file) ≤ length out
+      → (textAnswer file out .bytes ≤ length (textBuffer file out)) × (take (textAnswer file out .bytes) (textBuffer file out) ≡ text file)
   text-front h =
-      rw (le-leb (length (text file)) (length out) h)
+      let t = text-fits h in
+      rw (sym (t .answer), sym (t .buffer-left))
       (omega (arith, length-append (text file) (drop (length (text file)) out)), take-append-seam (text file) (drop (length (text file)) out))
 
 -- ---- how long they are

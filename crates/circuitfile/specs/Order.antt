@@ -1,35 +1,39 @@
--- The file's own order of refusals: what each end of it answers, and what follows when no row of the head applies.
+-- The file's own order of refusals: what each end of it answers, and what follows where no row of the head applies.
 use mathlib.Core.Path.{_≡_, refl, sym, ap, ap₂, _∙_}
 use mathlib.Core.Logic.{_≢_}
-use mathlib.Core.Bool.{Bool, true, false, not, cond, _&&_}
-use mathlib.Core.List.{List, _∷_, _++_}
+use mathlib.Core.Bool.{Bool, true, false, not}
+use mathlib.Core.List.{List, [], _∷_, _++_}
 use Prim.Native.Nat.{ℕ, zero, suc, _+_, _*_, _≤_, _<_}
 use native.Mathlib.Omega.{arith}
-use lib.Dec.{leb, eqb}
+use lib.Dec.{leb}
 use lib.ListN.{length}
-use borrow.Author.Tests.{ltb-false, leb-true, not-false, not-true}
-use Rattle.whole.specs.Tests.{and-left, and-right, or-right}
+use borrow.Author.Tests.{ltb-false, leb-true, not-false}
+use Rattle.whole.specs.Tests.{and-left, or-right}
 use Rattle.whole.specs.Lists.{nil, cons, length-tabulate}
 use Rattle.refusal.specs.declared.Refusal.{Refusal}
-use Rattle.refusal.specs.First.{Row, row, First, first-given, firstOf, firstTrue, Clear, first-front, first-rest, first-zero, first-each, first-within}
-use Rattle.refusal.specs.Parameters.{refused, within, InRange}
+use Rattle.refusal.specs.First.{Row, row, refused, First, first-given, firstOf, placeOf, answerOf, Clear, areSingle, firstTrue, some-one, place-single, place-within, answer-front, answer-rest, answer-row, answer-past, first-zero, first-each}
+use Rattle.refusal.specs.Parameters.{within, InRange}
 use Rattle.scheme.specs.Calls.{badParams, differs}
 use Rattle.scheme.specs.Passed.{params-in-range, length-is}
-use Rattle.circuit.specs.Circuits.{badCounts, wrongGates, overGates, gateRows, placeOf}
+use Rattle.circuit.specs.Circuits.{badCounts, gateRows}
 use Rattle.circuit.specs.Answers.{inputs-within, gates-within}
 use Rattle.circuit.specs.Records.{length-wrongGates, length-overGates}
-use Rattle.circuitfile.specs.File.{fileParams, fileInputs, fileGateCount, fileGate, fileGates, fileInputBounds, headRows, fileGateRows, checkNumber, planNumber, filePlace}
+use Rattle.circuitfile.specs.File.{fileParams, fileInputs, fileGateCount, fileGate, fileGates, fileInputBounds, headRows, fileGateRows, checkRows, planFileRows}
 
--- ---- the place
+-- ---- the answers, with number and place apart: of the gates alone, of the check, and of planning
 
--- not the number of a gate
-abbrev pub ofNoGate : ℕ → Bool
-ofNoGate k = not (eqb k 9) && not (eqb k 10)
+abbrev pub gateAnswer : List ℕ → Refusal
+gateAnswer file = answerOf (fileGateRows file)
 
-pub place-none : (file : List ℕ) (k : ℕ) → ofNoGate k ≡ true → filePlace file k ≡ 0
-unfolding filePlace placeOf
-place-none file k t =
-    rw (not-true (eqb k 9) (and-left (not (eqb k 9)) (not (eqb k 10)) t), not-true (eqb k 10) (and-right (not (eqb k 9)) (not (eqb k 10)) t))
+abbrev pub checkRefusal : List ℕ → Refusal
+checkRefusal file = answerOf (checkRows file)
+
+abbrev pub planRefusal : List ℕ → List ℕ → Refusal
+planRefusal file buffer = answerOf (planFileRows file buffer)
+
+-- 3: planning's buffer has another length than four bytes a wire
+abbrev pub otherLength : List ℕ → List ℕ → Bool
+otherLength file buffer = differs (length buffer) (4 * (fileInputs file + fileGateCount file))
 
 -- ---- the head
 
@@ -51,161 +55,124 @@ unfolding badCounts
 some-gate inputs gates e =
     leb-true 1 gates (and-left (leb 1 gates) (leb gates 4096) (not-false (within 1 4096 gates) (or-right (not (within 1 1024 inputs)) (not (within 1 4096 gates)) e)))
 
--- 3: planning's buffer has another length than four bytes a wire
-abbrev pub otherLength : List ℕ → List ℕ → Bool
-otherLength file buffer = differs (length buffer) (4 * (fileInputs file + fileGateCount file))
-
 module _ (file : List ℕ) where
-  head-clear : firstOf (headRows file) ≡ 0 → Clear (headRows file)
-  unfolding headRows
-  head-clear e = first-zero (cons (omega arith) (cons (omega arith) (cons (omega arith) (cons (omega arith) (cons (omega arith) nil))))) e
-
   -- the number is that of the first row that applies in the file's own order, and 0 exactly when none does
-  pub check-first : First (headRows file ++ fileGateRows file) (checkNumber file)
-  unfolding checkNumber headRows fileGateRows gateRows
+  pub check-first : First (checkRows file) (firstOf (checkRows file))
+  unfolding checkRows headRows fileGateRows gateRows
   check-first =
       first-given
       (cons (omega arith) (cons (omega arith) (cons (omega arith) (cons (omega arith) (cons (omega arith) (cons (omega arith) (cons (omega arith) nil)))))))
 
   -- in planning, with 3 for the buffer's length behind the head
-  pub plan-first : (buffer : List ℕ) → First (headRows file ++ (row 3 (otherLength file buffer) ∷ fileGateRows file)) (planNumber file buffer)
-  unfolding planNumber headRows fileGateRows gateRows
+  pub plan-first : (buffer : List ℕ) → First (planFileRows file buffer) (firstOf (planFileRows file buffer))
+  unfolding planFileRows headRows fileGateRows gateRows
   plan-first buffer =
       first-given
       (cons (omega arith)
       (cons (omega arith) (cons (omega arith) (cons (omega arith) (cons (omega arith) (cons (omega arith) (cons (omega arith) (cons (omega arith) nil))))))))
 
-  pub head-right : firstOf (headRows file) ≡ 0 → HeadRight file
+  head-clear : firstOf (headRows file) ≡ 0 → Clear (headRows file)
   unfolding headRows
-  head-right e =
-      let t : Clear (headRows file) = head-clear e in
-      let inputs : fileInputs file ≤ 1024 = inputs-within (fileInputs file) (fileGateCount file) (t .1 .1 .1 .0) in
-      let gates : fileGateCount file ≤ 4096 = gates-within (fileInputs file) (fileGateCount file) (t .1 .1 .1 .0) in
+  head-clear e = first-zero (cons (omega arith) (cons (omega arith) (cons (omega arith) (cons (omega arith) (cons (omega arith) nil))))) e
+
+  pub clear-right : Clear (headRows file) → HeadRight file
+  unfolding headRows
+  clear-right t =
+      let counts = t .1 .1 .1 .0 .0 in
+      let inputs : fileInputs file ≤ 1024 = inputs-within (fileInputs file) (fileGateCount file) counts in
+      let gates : fileGateCount file ≤ 4096 = gates-within (fileInputs file) (fileGateCount file) counts in
       record {
         clear = t;
-        enough = ltb-false (length file) 23 (t .0);
-        ranges = t .1 .1 .0;
-        range = params-in-range (fileParams file) (t .1 .1 .0);
-        counts = t .1 .1 .1 .0;
+        enough = ltb-false (length file) 23 (t .0 .0);
+        ranges = t .1 .1 .0 .0;
+        range = params-in-range (fileParams file) (t .1 .1 .0 .0);
+        counts = counts;
         inputs-high = inputs;
-        gates-low = some-gate (fileInputs file) (fileGateCount file) (t .1 .1 .1 .0);
+        gates-low = some-gate (fileInputs file) (fileGateCount file) counts;
         gates-high = gates;
         wires-high = omega arith;
-        long = length-is (length file) (23 + 5 * fileGateCount file) (t .1 .1 .1 .1 .0);
+        long = length-is (length file) (23 + 5 * fileGateCount file) (t .1 .1 .1 .1 .0 .0);
       }
 
-  -- the place of the head's number is 0
-  pub head-place : filePlace file (firstOf (headRows file)) ≡ 0
-  unfolding headRows
-  head-place = place-none file (firstOf (headRows file)) (first-each (λ k. ofNoGate k ≡ true) refl (cons refl (cons refl (cons refl (cons refl (cons refl nil))))))
+  pub head-right : firstOf (headRows file) ≡ 0 → HeadRight file
+  head-right e = clear-right (head-clear e)
 
-  -- a place is a gate's, and so it is below 65,536
-  gate-place : fileGateCount file ≤ 4096 → (k : ℕ) → filePlace file k ≤ 4096
-  unfolding filePlace placeOf fileGates
-  gate-place h k = by-number (eqb k 9) (eqb k 10)
-    where
-      many : length (fileGates file) ≡ fileGateCount file
-      many = length-tabulate (fileGateCount file) (fileGate file)
+  head-single : areSingle (headRows file) ≡ true
+  unfolding areSingle headRows
+  head-single = refl
 
-      wrong : List Bool
-      wrong = wrongGates (fileInputs file) (fileGates file)
+  -- the head refuses: the number is its own, and the place is 0
+  module _ {n : ℕ} (e : n ≡ firstOf (headRows file)) (h : n ≢ 0) where
+    headed : (rest : List Row) → refused n 0 ≡ answerOf (headRows file ++ rest)
+    headed rest = sym (answer-front (headRows file) rest (λ z. h (e ∙ z)) ∙ ap₂ refused (sym e) (place-single (headRows file) head-single))
 
-      over : List Bool
-      over = overGates (fileParams file) (fileGates file) (fileInputBounds file)
+    pub check-headed : refused n 0 ≡ checkRefusal file
+    unfolding checkRows
+    check-headed = headed (fileGateRows file)
 
-      by-number : (s t : Bool) → cond s (firstTrue wrong) (cond t (firstTrue over) 0) ≤ 4096
-      by-number true t = omega (arith, first-within wrong, length-wrongGates (fileInputs file) (fileGates file), many)
-      by-number false true = omega (arith, first-within over, length-overGates (fileParams file) (fileGates file) (fileInputBounds file), many)
-      by-number false false = omega arith
+    pub plan-headed : (buffer : List ℕ) → refused n 0 ≡ planRefusal file buffer
+    unfolding planFileRows
+    plan-headed buffer = headed _
 
-  small-place : (rest : List Row) → filePlace file (firstOf (headRows file ++ rest)) < 65536
-  small-place rest = by-number (firstOf (headRows file)) refl
-    where
-      by-number : (k : ℕ) → firstOf (headRows file) ≡ k → filePlace file (firstOf (headRows file ++ rest)) < 65536
-      by-number zero e = omega (arith, gate-place (head-right e .gates-high) (firstOf (headRows file ++ rest)))
-      by-number (suc k) e = rw (first-front (headRows file) rest (λ z. omega (arith, e, z)), head-place) (omega arith)
+  -- or it does not, and the answer is that of the rows behind it
+  module _ (r : HeadRight file) where
+    pub check-settled : gateAnswer file ≡ checkRefusal file
+    unfolding checkRows
+    check-settled = sym (answer-rest (headRows file) (fileGateRows file) (r .clear))
 
-  pub check-place : filePlace file (checkNumber file) < 65536
-  unfolding checkNumber
-  check-place = small-place (fileGateRows file)
+    -- planning's buffer has another length
+    pub plan-refused : (buffer : List ℕ) → otherLength file buffer ≡ true → refused 3 0 ≡ planRefusal file buffer
+    unfolding planFileRows firstTrue
+    plan-refused buffer d =
+        sym (answer-rest (headRows file) _ (r .clear) ∙ answer-row 3 (otherLength file buffer ∷ []) (fileGateRows file) (some-one _ ∙ d) ∙ rw d)
 
-  pub plan-place : (buffer : List ℕ) → filePlace file (planNumber file buffer) < 65536
-  unfolding planNumber
-  plan-place buffer = small-place _
-
-  -- no number is above 12
-  pub check-small : checkNumber file < 13
-  unfolding checkNumber headRows fileGateRows gateRows
-  check-small = first-each (λ k. k < 13) (omega arith) (cons (omega arith) (cons (omega arith) (cons (omega arith) (cons (omega arith) (cons (omega arith) (cons (omega arith) (cons (omega arith) nil)))))))
-
-  -- ---- the answers, with number and place apart
-
-  abbrev pub answerOf : ℕ → Refusal
-  answerOf k = refused k (filePlace file k)
-
-  -- of the gates alone
-  unfoldable pub gateAnswer : Refusal
-  gateAnswer = answerOf (firstOf (fileGateRows file))
-
-  unfoldable pub checkRefusal : Refusal
-  checkRefusal = answerOf (checkNumber file)
-
-  unfoldable pub planRefusal : List ℕ → Refusal
-  planRefusal buffer = answerOf (planNumber file buffer)
+    pub plan-settled : (buffer : List ℕ) → otherLength file buffer ≡ false → gateAnswer file ≡ planRefusal file buffer
+    unfolding planFileRows
+    plan-settled buffer d = sym (answer-rest (headRows file) _ (r .clear) ∙ answer-past 3 (otherLength file buffer ∷ []) (fileGateRows file) (some-one _ ∙ d))
 
   -- the check gives 0 only where the head does
-  pub check-passes : {a : Refusal} → a ≡ checkRefusal → a .number ≡ 0 → firstOf (headRows file) ≡ 0
-  unfolding checkRefusal checkNumber
-  check-passes e z = by-number (firstOf (headRows file)) refl
+  pub check-passes : {a : Refusal} → a ≡ checkRefusal file → a .number ≡ 0 → firstOf (headRows file) ≡ 0
+  check-passes {a} e z = by-number (firstOf (headRows file)) refl
     where
       by-number : (k : ℕ) → firstOf (headRows file) ≡ k → k ≡ 0
       by-number zero f = refl
-      by-number (suc k) f =
-          sym f ∙ sym (first-front (headRows file) (fileGateRows file) (λ y. omega (arith, f, y))) ∙ sym (ap (λ (a : Refusal). a .number) e) ∙ z
+      by-number (suc k) f = ap (λ (a : Refusal). a .number) (check-headed (sym f) (λ y. omega (arith, y)) ∙ sym e) ∙ z
 
-  -- the head refuses
-  module _ {n : ℕ} (e : n ≡ firstOf (headRows file)) (h : n ≢ 0) where
-    headed : (rest : List Row) → firstOf (headRows file ++ rest) ≡ n
-    headed rest = first-front (headRows file) rest (λ z. h (e ∙ z)) ∙ sym e
+  -- ---- a place is a gate's, and so it is below 65,536
 
-    answered : (rest : List Row) → refused n 0 ≡ answerOf (firstOf (headRows file ++ rest))
-    answered rest = ap₂ refused (sym (headed rest)) (sym (ap (filePlace file) (headed rest ∙ e) ∙ head-place))
+  many : length (fileGates file) ≡ fileGateCount file
+  unfolding fileGates
+  many = length-tabulate (fileGateCount file) (fileGate file)
 
-    pub check-headed : refused n 0 ≡ checkRefusal
-    unfolding checkRefusal checkNumber
-    check-headed = answered (fileGateRows file)
+  small-place : (rest : List Row) → (fileGateCount file ≤ 4096 → placeOf rest ≤ 4096) → placeOf (headRows file ++ rest) < 65536
+  small-place rest small = by-number (firstOf (headRows file)) refl
+    where
+      by-number : (k : ℕ) → firstOf (headRows file) ≡ k → placeOf (headRows file ++ rest) < 65536
+      by-number zero e =
+          let r : HeadRight file = head-right e in
+          rw (ap (λ (a : Refusal). a .place) (answer-rest (headRows file) rest (r .clear))) (omega (arith, small (r .gates-high)))
+      by-number (suc k) e = rw (ap (λ (a : Refusal). a .place) (sym (headed (sym e) (λ y. omega (arith, y)) rest))) (omega arith)
 
-    pub plan-headed : (buffer : List ℕ) → refused n 0 ≡ planRefusal buffer
-    unfolding planRefusal planNumber
-    plan-headed buffer = answered _
+  pub check-place : checkRefusal file .place < 65536
+  unfolding checkRows fileGateRows gateRows
+  check-place =
+      small-place (fileGateRows file)
+      (λ h.
+      place-within 4096
+      (cons (omega (arith, h, length-wrongGates (fileInputs file) (fileGates file), many))
+      (cons (omega (arith, h, length-overGates (fileParams file) (fileGates file) (fileInputBounds file), many)) nil)))
 
-    pub plan-headed-number : (buffer : List ℕ) → planNumber file buffer ≢ 0
-    unfolding planNumber
-    plan-headed-number buffer z = h (sym (headed _) ∙ z)
+  pub plan-place : (buffer : List ℕ) → planRefusal file buffer .place < 65536
+  unfolding planFileRows fileGateRows gateRows
+  plan-place buffer =
+      small-place (row 3 (otherLength file buffer) ∷ fileGateRows file)
+      (λ h.
+      place-within 4096
+      (cons (omega arith)
+      (cons (omega (arith, h, length-wrongGates (fileInputs file) (fileGates file), many))
+      (cons (omega (arith, h, length-overGates (fileParams file) (fileGates file) (fileInputBounds file), many)) nil))))
 
-  -- or it does not
-  module _ (r : HeadRight file) where
-    pub check-gates : checkNumber file ≡ firstOf (fileGateRows file)
-    unfolding checkNumber
-    check-gates = first-rest (headRows file) (fileGateRows file) (r .clear)
-
-    pub check-settled : gateAnswer ≡ checkRefusal
-    unfolding gateAnswer checkRefusal
-    check-settled = ap answerOf (sym check-gates)
-
-    -- planning's buffer has another length
-    pub plan-short : (buffer : List ℕ) → otherLength file buffer ≡ true → planNumber file buffer ≡ 3
-    unfolding planNumber firstOf
-    plan-short buffer d = first-rest (headRows file) _ (r .clear) ∙ rw d
-
-    pub plan-refused : (buffer : List ℕ) → otherLength file buffer ≡ true → refused 3 0 ≡ planRefusal buffer
-    unfolding planRefusal
-    plan-refused buffer d = ap₂ refused (sym (plan-short buffer d)) (sym (ap (filePlace file) (plan-short buffer d) ∙ place-none file 3 refl))
-
-    pub plan-gates : (buffer : List ℕ) → otherLength file buffer ≡ false → planNumber file buffer ≡ firstOf (fileGateRows file)
-    unfolding planNumber firstOf
-    plan-gates buffer d = first-rest (headRows file) _ (r .clear) ∙ rw d
-
-    pub plan-settled : (buffer : List ℕ) → otherLength file buffer ≡ false → gateAnswer ≡ planRefusal buffer
-    unfolding gateAnswer planRefusal
-    plan-settled buffer d = ap answerOf (sym (plan-gates buffer d))
+  -- no number is above 12
+  pub check-small : checkRefusal file .number < 13
+  unfolding checkRows headRows fileGateRows gateRows
+  check-small = first-each (λ k. k < 13) (omega arith) (cons (omega arith) (cons (omega arith) (cons (omega arith) (cons (omega arith) (cons (omega arith) (cons (omega arith) (cons (omega arith) nil)))))))

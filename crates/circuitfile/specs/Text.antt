@@ -1,13 +1,15 @@
 -- Document 01, *Circuit file and printer*: the printed text, byte for byte, and what writing it into a lent buffer leaves.
+use mathlib.Core.Path.{_≡_}
 use mathlib.Core.Bool.{cond}
 use mathlib.Core.List.{List, [], _∷_, _++_, flatMap}
 use Prim.Native.Nat.{ℕ, zero, suc, _+_, _-_, _/_, _%_}
-use lib.Dec.{leb, ltb}
+use lib.Dec.{ltb}
 use lib.ListN.{length, getD, drop}
 use Rattle.whole.specs.Lists.{tabulate}
-use Rattle.refusal.specs.First.{doneOr}
+use Rattle.refusal.specs.First.{Row, row, firstOf, placeOf, doneOr}
 use Rattle.circuit.specs.Circuits.{byKind}
-use Rattle.circuitfile.specs.File.{fileParams, fileInputs, fileGateCount, fileGate, fileBounds, checkNumber, filePlace}
+use Rattle.circuitfile.specs.declared.Printed.{Printed}
+use Rattle.circuitfile.specs.File.{fileParams, fileInputs, fileGateCount, fileGate, fileBounds, checkRows}
 
 -- ---- words, in ASCII
 
@@ -81,14 +83,29 @@ refusedLine k at = wordREFUSED ++ space ++ decimal k ++ space ++ decimal at ++ n
 
 unfoldable pub text : List ℕ → List ℕ
 text file =
-    doneOr (checkNumber file)
+    doneOr (firstOf (checkRows file))
     (wireLines file ++ okLine file)
-    (refusedLine (checkNumber file) (filePlace file (checkNumber file)))
+    (refusedLine (firstOf (checkRows file)) (placeOf (checkRows file)))
 
--- written into a lent buffer: the text's length, or 0 where the buffer is shorter than the text
-unfoldable pub textAnswer : List ℕ → List ℕ → ℕ
-textAnswer file out = cond (leb (length (text file)) (length out)) (length (text file)) 0
+-- ---- in a lent buffer
 
--- the text stands at the front and the rest is as found; a buffer that is too short is left as found
+-- 3 where the buffer is shorter than the text
+unfoldable pub textRows : List ℕ → List ℕ → List Row
+textRows file buffer = row 3 (ltb (length buffer) (length (text file))) ∷ []
+
+abbrev pub printed : ℕ → ℕ → Printed
+printed k long = record { number = k; place = 0; bytes = long }
+
+-- the text's length in bytes
+unfoldable pub textAnswer : List ℕ → List ℕ → Printed
+textAnswer file buffer =
+    let rows = textRows file buffer in
+    record { number = firstOf rows; place = placeOf rows; bytes = doneOr (firstOf rows) (length (text file)) 0 }
+
+-- the text stands at the front, and the rest is as found
 unfoldable pub textBuffer : List ℕ → List ℕ → List ℕ
-textBuffer file out = cond (leb (length (text file)) (length out)) (text file ++ drop (length (text file)) out) out
+textBuffer file buffer = doneOr (firstOf (textRows file buffer)) (text file ++ drop (length (text file)) buffer) buffer
+
+pub record TextPromise (file buffer : List ℕ) (r : Printed) (printed : List ℕ) : Type 0 where
+  pub answer : r ≡ textAnswer file buffer
+  pub buffer-left : printed ≡ textBuffer file buffer

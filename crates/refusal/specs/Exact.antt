@@ -10,7 +10,7 @@ use lib.ListN.{length, getD}
 use borrow.Author.Tests.{eq-eqb, not-true}
 use Rattle.whole.specs.Tests.{and-left, and-right, clash}
 use Rattle.refusal.specs.declared.Refusal.{Refusal}
-use Rattle.refusal.specs.First.{Row, someTrue, firstTrue, refused, firstOf, placeOf, answerOf, Clear, answer-rest, first-is-true, none-before-first, none-at}
+use Rattle.refusal.specs.First.{Row, someTrue, firstTrue, refused, firstOf, placeOf, answerOf, Clear, all-false, answer-rest, first-is-true, none-before-first, none-at}
 
 -- the rows that stand in front of the first with the number k: those that a call meets before it
 unfoldable pub before : ℕ → List Row → List Row
@@ -88,3 +88,15 @@ pub true-inside : (ts : List Bool) (g : ℕ) → getD ts g false ≡ true → g 
 true-inside [] g e = clash e refl
 true-inside (t ∷ ts) zero e = omega arith
 true-inside (t ∷ ts) (suc g) e = suc-le-suc (true-inside ts g e)
+
+-- where the number k is given, no row in front of it applies
+pub given-clear : (rows : List Row) (k : ℕ) → k ≢ 0 → firstOf rows ≡ k → Clear (before k rows)
+unfolding firstOf before
+given-clear [] k h e = tt
+given-clear (r ∷ rows) k h e = by-tests (eqb (r .number) k) (someTrue (r .tests)) refl refl e (given-clear rows k h)
+  where
+    by-tests : (same t : Bool) → eqb (r .number) k ≡ same → someTrue (r .tests) ≡ t → cond t (r .number) (firstOf rows) ≡ k
+        → (firstOf rows ≡ k → Clear (before k rows)) → Clear (cond same [] (r ∷ before k rows))
+    by-tests true t s f e later = tt
+    by-tests false true s f e later = clash (eq-eqb (r .number) k e) s
+    by-tests false false s f e later = (all-false (r .tests) f, later e)

@@ -212,6 +212,22 @@ place-single (r ∷ rows) s = by-test (someTrue (r .tests)) refl (place-single r
     by-test true e later = first-single (r .tests) (eqb-true (length (r .tests)) 1 (and-left (eqb (length (r .tests)) 1) (areSingle rows) s)) e
     by-test false e later = later
 
+pub first-within : (ts : List Bool) → firstTrue ts ≤ length ts
+unfolding firstTrue
+first-within [] = omega arith
+first-within (true ∷ ts) = omega arith
+first-within (false ∷ ts) = suc-le-suc (first-within ts)
+
+-- a place is at most how many tests its row has
+pub place-within : (m : ℕ) {rows : List Row} → Each (λ r. length (r .tests) ≤ m) rows → placeOf rows ≤ m
+unfolding placeOf
+place-within m nil = omega arith
+place-within m (cons {x = r} {xs = rows} b e) = by-test (someTrue (r .tests)) (place-within m e)
+  where
+    by-test : (t : Bool) → placeOf rows ≤ m → cond t (firstTrue (r .tests)) (placeOf rows) ≤ m
+    by-test true later = omega (arith, first-within (r .tests), b)
+    by-test false later = later
+
 -- ---- done, or as found
 
 pub doneOr-done : {A : Type 0} {k : ℕ} (a z : A) → k ≡ 0 → doneOr k a z ≡ a
@@ -260,12 +276,6 @@ first-here (true ∷ ts) zero a e = refl
 first-here (true ∷ ts) (suc i) a e = absurd (not-suc-le-zero a)
 first-here (false ∷ ts) zero a e = clash e refl
 first-here (false ∷ ts) (suc i) a e = ap suc (first-here ts i (le-of-suc-le-suc a) e)
-
-pub first-within : (ts : List Bool) → firstTrue ts ≤ length ts
-unfolding firstTrue
-first-within [] = omega arith
-first-within (true ∷ ts) = omega arith
-first-within (false ∷ ts) = suc-le-suc (first-within ts)
 
 -- some test is true exactly where the place is one of the tests'
 pub some-first : (ts : List Bool) → firstTrue ts < length ts → someTrue ts ≡ true
