@@ -6,6 +6,7 @@ what is in any crate and what the scripts of the tests use. What stands in backq
 
 - a path, `crate::module::function`, or `module::function` or `Type::function` of the same crate or of what its code uses: it is there;
 - a file, `crate/File`, `crate/specs/File.antt`, or a must-fail edit, `crate/edit`: it is there;
+- a module of the logic, `lib.IntN`: a file of the crates imports from it;
 - text: each word of it that looks like a name, from two letters on, is declared in the crate itself or in one that it leans on (a module, a
   file, a function, a definition, a law, a field, a parameter or a local), or imported in the crate, or it is a crate, a word of the
   languages, or a word of the same file or of the module that the file proves.
@@ -26,6 +27,7 @@ PATH = re.compile(r"\w+(?:::\w+)+")
 FILE = re.compile(r"(?:\w+/)+\w+(?:\.\w+)?|\w+\.(?:antt|rt|py|md|txt)")
 LANGUAGE = {"requires", "ensures", "unfolding", "omega"}
 PAGES = ("docs/DESIGN.md", "docs/DECISIONS.md")
+MODULE = re.compile(r"[\w·]+(?:\.\w+)+")
 IMPORT = re.compile(r"^(?:ghost )?use [^;{]*\.\{([^}]*)\}", re.M)
 LOGIC = (  # declarations, fields and locals; parameters; bound names
     re.compile(r"^ *(?:(?:abbrev|unfoldable|opaque|let) )*(?:pub )?(?:(?:record|data) )?([^\s:(){}=]+)(?: [({].*?[)}])* :(?= |$)", re.M),
@@ -134,12 +136,21 @@ def is_file(crate, name):
     return head in leans() and any(any((CRATES / head / folder).glob(rest)) for folder in ("specs", "proofs", "src", "must-fail"))
 
 
+@functools.lru_cache(maxsize=None)
+def modules():
+    """The modules of the logic that the crates import from."""
+    files = [path for crate in leans() for path in sources(crate)]
+    return {module for path in files for module in re.findall(r"^(?:ghost )?use ([\w·.]+?)(?:\.\{| as |;|$)", parted(path)[0], re.M)}
+
+
 def unknown(crate, path, text):
     """The names in a comment's backquotes that do not exist."""
     if PATH.fullmatch(text):
         return [] if is_path(crate, text) else [text]
     if FILE.fullmatch(text):
         return [] if is_file(crate, text) else [text]
+    if MODULE.fullmatch(text):
+        return [] if text in modules() else [text]
     return [word for word in WORD.findall(text) if word not in known(crate) and word not in beside(crate, path)]
 
 
