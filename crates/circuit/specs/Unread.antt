@@ -22,22 +22,22 @@ done-alike : {A : Type 0} {k k′ : ℕ} {a a′ : A} (z z′ : A) → k ≡ k�
 done-alike {a = a} {a′} z z′ same e none = doneOr-done a z none ∙ e ∙ sym (doneOr-done a′ z′ (sym same ∙ none))
 
 module _ (plan : PlanLoans) (wires W scratch wires′ scratch′ : List ℤ) (same : SameInputs plan wires scratch wires′ scratch′) where
-  abbrev one : EvaluateLoans
-  one = record { plan = plan; wires = wires; key = W; scratch = scratch }
+  abbrev these : EvaluateLoans
+  these = record { plan = plan; wires = wires; key = W; scratch = scratch }
 
-  abbrev other : EvaluateLoans
-  other = record { plan = plan; wires = wires′; key = W; scratch = scratch′ }
+  abbrev those : EvaluateLoans
+  those = record { plan = plan; wires = wires′; key = W; scratch = scratch′ }
 
-  rows-alike : evaluateRows one ≡ evaluateRows other
+  rows-alike : evaluateRows these ≡ evaluateRows those
   unfolding evaluateRows evaluateFront
   rows-alike = rw (same .wires-long, same .inputs-same, same .scratch-long)
 
-  pub evaluate-answer-unread : evaluateAnswer one ≡ evaluateAnswer other
+  pub evaluate-answer-unread : evaluateAnswer these ≡ evaluateAnswer those
   unfolding evaluateAnswer
   evaluate-answer-unread = rw rows-alike
 
-  pub evaluate-left-unread : evaluateAnswer one .number ≡ 0
-      → (evaluateWires one ≡ evaluateWires other) × (evaluateBounds one ≡ evaluateBounds other) × (evaluateScratch one ≡ evaluateScratch other)
+  pub evaluate-left-unread : evaluateAnswer these .number ≡ 0
+      → (evaluateWires these ≡ evaluateWires those) × (evaluateBounds these ≡ evaluateBounds those) × (evaluateScratch these ≡ evaluateScratch those)
   unfolding evaluateAnswer evaluateWires evaluateBounds evaluateScratch
   evaluate-left-unread none =
       let made = ap (λ cs. flatten (wiresOf (plan .p) W (plan .circuit .gates) cs)) (cut-same (plan .p .n) (plan .inputs) wires wires′ (same .inputs-same)) in

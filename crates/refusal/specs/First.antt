@@ -241,8 +241,8 @@ doneOr-refused {k = suc k} a z h = refl
 
 -- ---- one answer: what two calls answer, or leave in a buffer, by one promise is the same, since both equal what the promise names
 
-pub one : {A : Type 0} {a b t : A} → a ≡ t → b ≡ t → a ≡ b
-one e f = e ∙ sym f
+pub same-answer : {A : Type 0} {a b t : A} → a ≡ t → b ≡ t → a ≡ b
+same-answer e f = e ∙ sym f
 
 -- ---- the place is the first: there the test is true, and before it none is
 

@@ -53,8 +53,8 @@ bad = params 1 16 2 1 1
 abbrev noErrors : Params
 noErrors = params 2 16 2 1 0
 
-abbrev one : ℤ → List ℤ
-one x = x ∷ []
+abbrev alone : ℤ → List ℤ
+alone x = x ∷ []
 
 abbrev s : List ℤ
 s = pair (pos 1) (pos 1)
@@ -146,14 +146,14 @@ numbers =
     -- the key check: 1, 3, 4
     is (keyCheckReturns good s) (refuses 0)
     ∷ is (keyCheckReturns bad s) (refuses 1)
-    ∷ is (keyCheckReturns good (one (pos 1))) (refuses 3)
+    ∷ is (keyCheckReturns good (alone (pos 1))) (refuses 3)
     ∷ is (keyCheckReturns good (pair (pos 0) (pos 1))) (refuses 4)
     ∷ is (keyCheckReturns good (pair (pos 1) (− 2))) (refuses 4)
     -- the switching key maker: 1, 3 of each of four loans, 4, 6, 7; and on sheet 1, where n² is not 2n
     ∷ is (makeKeyReturns good s masks errors 8) (refuses 0)
     ∷ is (makeKeyReturns (sheet 1) s₄ masks₄₈ errors₁₆ 64) (refuses 0)
     ∷ is (makeKeyReturns bad s masks errors 8) (refuses 1)
-    ∷ is (makeKeyReturns good (one (pos 1)) masks errors 8) (refuses 3)
+    ∷ is (makeKeyReturns good (alone (pos 1)) masks errors 8) (refuses 3)
     ∷ is (makeKeyReturns good s c errors 8) (refuses 3)
     ∷ is (makeKeyReturns good s masks c 8) (refuses 3)
     ∷ is (makeKeyReturns good s masks errors 7) (refuses 3)
@@ -173,23 +173,23 @@ numbers =
     ∷ is (benchCheckReturns s₄ (− 2147483649 ∷ replicate 47 (pos 0)) errors₁₆) (refuses 6)
     ∷ is (benchCheckReturns s₄ masks₄₈ (pos 2 ∷ replicate 15 (pos 0))) (refuses 7)
     -- encryption: 1, 3 of each of three loans, 4, 5, 6, 7
-    ∷ is (encryptReturns good s 1 (one (− 8)) (− 1) 2) (three 0 0 1)
-    ∷ is (encryptReturns good s 0 (one (pos 7)) (pos 1) 2) (three 0 0 1)
-    ∷ is (encryptReturns bad s 1 (one (− 8)) (− 1) 2) (refuses₃ 1)
-    ∷ is (encryptReturns good (one (pos 1)) 1 (one (− 8)) (− 1) 2) (refuses₃ 3)
+    ∷ is (encryptReturns good s 1 (alone (− 8)) (− 1) 2) (three 0 0 1)
+    ∷ is (encryptReturns good s 0 (alone (pos 7)) (pos 1) 2) (three 0 0 1)
+    ∷ is (encryptReturns bad s 1 (alone (− 8)) (− 1) 2) (refuses₃ 1)
+    ∷ is (encryptReturns good (alone (pos 1)) 1 (alone (− 8)) (− 1) 2) (refuses₃ 3)
     ∷ is (encryptReturns good s 1 c (− 1) 2) (refuses₃ 3)
-    ∷ is (encryptReturns good s 1 (one (− 8)) (− 1) 1) (refuses₃ 3)
-    ∷ is (encryptReturns good (pair (pos 1) (pos 2)) 1 (one (− 8)) (− 1) 2) (refuses₃ 4)
-    ∷ is (encryptReturns good s 2 (one (− 8)) (− 1) 2) (refuses₃ 5)
-    ∷ is (encryptReturns good s 1 (one (pos 8)) (− 1) 2) (refuses₃ 6)
-    ∷ is (encryptReturns good s 1 (one (− 9)) (− 1) 2) (refuses₃ 6)
-    ∷ is (encryptReturns good s 1 (one (− 8)) (pos 2) 2) (refuses₃ 7)
-    ∷ is (encryptReturns good s 1 (one (− 8)) (− 2) 2) (refuses₃ 7)
+    ∷ is (encryptReturns good s 1 (alone (− 8)) (− 1) 1) (refuses₃ 3)
+    ∷ is (encryptReturns good (pair (pos 1) (pos 2)) 1 (alone (− 8)) (− 1) 2) (refuses₃ 4)
+    ∷ is (encryptReturns good s 2 (alone (− 8)) (− 1) 2) (refuses₃ 5)
+    ∷ is (encryptReturns good s 1 (alone (pos 8)) (− 1) 2) (refuses₃ 6)
+    ∷ is (encryptReturns good s 1 (alone (− 9)) (− 1) 2) (refuses₃ 6)
+    ∷ is (encryptReturns good s 1 (alone (− 8)) (pos 2) 2) (refuses₃ 7)
+    ∷ is (encryptReturns good s 1 (alone (− 8)) (− 2) 2) (refuses₃ 7)
     -- decryption: 1, 3 of each of two loans, 4, 6
     ∷ is (decryptReturns good s (pair (pos 5) (pos 3))) (three 0 0 1)
     ∷ is (decryptReturns bad s (pair (pos 5) (pos 3))) (refuses₃ 1)
-    ∷ is (decryptReturns good (one (pos 1)) (pair (pos 5) (pos 3))) (refuses₃ 3)
-    ∷ is (decryptReturns good s (one (pos 8))) (refuses₃ 3)
+    ∷ is (decryptReturns good (alone (pos 1)) (pair (pos 5) (pos 3))) (refuses₃ 3)
+    ∷ is (decryptReturns good s (alone (pos 8))) (refuses₃ 3)
     ∷ is (decryptReturns good (pair (− 1) (pos 1)) (pair (pos 5) (pos 3))) (refuses₃ 4)
     ∷ is (decryptReturns good s above) (refuses₃ 6)
     ∷ is (decryptReturns good s under) (refuses₃ 6)
@@ -241,8 +241,8 @@ pub buffers : List Figure
 buffers =
     is (makeKeyResult (makeKeyLoans good s masksAbove errors found₈)) found₈
     ∷ is (makeKeyResult (makeKeyLoans good s masks errorsAbove found₈)) found₈
-    ∷ is (encryptResult (encryptLoans good s 2 (one (pos 3)) (pos 0) found)) found
-    ∷ is (encryptResult (encryptLoans good s 1 (one (pos 3)) (pos 2) found)) found
+    ∷ is (encryptResult (encryptLoans good s 2 (alone (pos 3)) (pos 0) found)) found
+    ∷ is (encryptResult (encryptLoans good s 1 (alone (pos 3)) (pos 2) found)) found
     ∷ is (xorResult (xorLoans good above 1 c 2 found)) found
     ∷ is (xorResult (xorLoans good c 1 under 2 found)) found
     ∷ is (xorResult (xorLoans good c 1 c 3 found)) found

@@ -28,11 +28,11 @@ by-kind R (suc zero) x a n = a
 by-kind R (suc (suc k)) x a n = n
 
 module _ (p : Params) (s : List ℤ) (key : KeyFits p s) where
-  range : InRange p
-  range = params-in-range p (key .params)
+  ranges : InRange p
+  ranges = params-in-range p (key .params)
 
   positive : 0 < p .q
-  positive = omega (arith, range .q-low)
+  positive = omega (arith, ranges .q-low)
 
   -- ---- each kind of gate, where the bound of its result fits
 
@@ -43,8 +43,8 @@ module _ (p : Params) (s : List ℤ) (key : KeyFits p s) where
         record {
           bit = omega arith;
           long = length-XOR (p .q) c d same ∙ v .long;
-          residues = xor-residues (p .q) c d positive (range .q-even);
-          quiet = xor-noise (p .q) s c d b1 b2 positive (range .q-even) same (v .quiet) (w .quiet);
+          residues = xor-residues (p .q) c d positive (ranges .q-even);
+          quiet = xor-noise (p .q) s c d b1 b2 positive (ranges .q-even) same (v .quiet) (w .quiet);
           fits = small;
         }
 
@@ -54,8 +54,8 @@ module _ (p : Params) (s : List ℤ) (key : KeyFits p s) where
         record {
           bit = mul-le-mul (v .bit) (w .bit);
           long = length-AND (p .n) (p .q) W c d;
-          residues = and-residues (p .n) (p .q) W c d positive (range .q-even);
-          quiet = and-noise (p .n) (p .q) (p .l) (p .f) s W c d b1 b2 B1 B2 positive (range .q-even)
+          residues = and-residues (p .n) (p .q) W c d positive (ranges .q-even);
+          quiet = and-noise (p .n) (p .q) (p .l) (p .f) s W c d b1 b2 B1 B2 positive (ranges .q-even)
               (length-is (length s) (p .n) (key .long)) (v .long) (w .long) (v .residues) (w .residues)
               (key-within (p .l) s (key .key)) built (v .quiet) (w .quiet) (v .fits) (w .fits);
           fits = small;
@@ -66,9 +66,9 @@ module _ (p : Params) (s : List ℤ) (key : KeyFits p s) where
         record {
           bit = omega arith;
           long = length-NOT (p .q) c ∙ v .long;
-          residues = not-residues (p .q) c positive (range .q-even) (v .residues);
-          quiet = not-noise (p .q) s c b1 positive (range .q-even)
-              (key-begins (p .l) s (key .key)) (omega (arith, v .long, range .n-low)) (v .bit) (v .quiet);
+          residues = not-residues (p .q) c positive (ranges .q-even) (v .residues);
+          quiet = not-noise (p .q) s c b1 positive (ranges .q-even)
+              (key-begins (p .l) s (key .key)) (omega (arith, v .long, ranges .n-low)) (v .bit) (v .quiet);
           fits = small;
         }
 
