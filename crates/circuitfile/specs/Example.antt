@@ -11,7 +11,7 @@ use Rattle.scheme.specs.Arithmetic.{XOR-bound, AND-bound, NOT-bound, fits}
 use Rattle.scheme.specs.Calls.{badParams, differs, overBudget}
 use Rattle.circuit.specs.Circuits.{byKind, run, gateBound, wrongGate, wrongGates, boundsOf, overGates, badCounts, gateRows, placeOf}
 use Rattle.circuitfile.specs.File.{bigEndian, field, isKnown, fileParams, fileInputs, fileGateCount, fileGate, fileGates, fileInputBounds, fileBounds, headRows, fileGateRows, checkNumber, planNumber, filePlace, checkAnswer, planFileAnswer, fourBytes, planFileBuffer}
-use Rattle.circuitfile.specs.Text.{text, wordIN, wordXOR, wordAND, wordNOT, wordOK, wordREFUSED, decimalUpTo, decimal, wireLine, kindWord, wireLines, largestBound, okLine, refusedLine}
+use Rattle.circuitfile.specs.Text.{text, textRows, printed, textAnswer, textBuffer, wordIN, wordXOR, wordAND, wordNOT, wordOK, wordREFUSED, decimalUpTo, decimal, wireLine, kindWord, wireLines, largestBound, okLine, refusedLine}
 
 abbrev exampleFile : List ℕ
 exampleFile =
@@ -67,6 +67,17 @@ cutFile = take 37 exampleFile
 pub example-refused : text overBudgetFile ≡ 82 ∷ 69 ∷ 70 ∷ 85 ∷ 83 ∷ 69 ∷ 68 ∷ 32 ∷ 49 ∷ 48 ∷ 32 ∷ 48 ∷ 10 ∷ []
 unfolding tabulate firstOf firstTrue doneOr someTrue inRange XOR-bound AND-bound NOT-bound fits badParams differs overBudget byKind run gateBound wrongGate wrongGates boundsOf overGates badCounts gateRows placeOf bigEndian field isKnown fileParams fileInputs fileGateCount fileGate fileGates fileInputBounds fileBounds headRows fileGateRows checkNumber filePlace text wordREFUSED decimalUpTo decimal refusedLine
 example-refused = refl
+
+-- the text in a lent buffer that has room for just it, and in one a byte short; and so of the text of a refusal
+pub example-lent : map (textAnswer exampleFile) (53 ∷ 52 ∷ 0 ∷ []) ++ map (textAnswer overBudgetFile) (13 ∷ 12 ∷ [])
+    ≡ printed 0 53 ∷ printed 3 0 ∷ printed 3 0 ∷ printed 0 13 ∷ printed 3 0 ∷ []
+unfolding flatMap tabulate firstOf firstTrue doneOr someTrue inRange XOR-bound AND-bound NOT-bound fits badParams differs overBudget byKind run gateBound wrongGate wrongGates boundsOf overGates badCounts gateRows placeOf bigEndian field isKnown fileParams fileInputs fileGateCount fileGate fileGates fileInputBounds fileBounds headRows fileGateRows checkNumber filePlace text wordIN wordXOR wordAND wordNOT wordOK wordREFUSED decimalUpTo decimal wireLine kindWord wireLines largestBound okLine refusedLine textRows textAnswer
+example-lent = refl
+
+-- two bytes more than the text are as found, and so is a buffer that is too short
+pub example-room : map (textBuffer exampleFile) (replicate 55 9 ∷ replicate 52 9 ∷ []) ≡ (exampleText ++ (9 ∷ 9 ∷ [])) ∷ replicate 52 9 ∷ []
+unfolding flatMap tabulate firstOf firstTrue doneOr someTrue inRange XOR-bound AND-bound NOT-bound fits badParams differs overBudget byKind run gateBound wrongGate wrongGates boundsOf overGates badCounts gateRows placeOf bigEndian field isKnown fileParams fileInputs fileGateCount fileGate fileGates fileInputBounds fileBounds headRows fileGateRows checkNumber filePlace text wordIN wordXOR wordAND wordNOT wordOK wordREFUSED decimalUpTo decimal wireLine kindWord wireLines largestBound okLine refusedLine textRows textBuffer
+example-room = refl
 
 -- as it stands; 9 for gate 1, and 10 for gate 0
 pub example-checked : map checkAnswer (exampleFile ∷ wrongKind ∷ overBudgetFile ∷ []) ≡ 0 ∷ (9 * 65536 + 1) ∷ (10 * 65536) ∷ []

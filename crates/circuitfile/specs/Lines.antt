@@ -8,15 +8,15 @@ use native.Mathlib.Omega.{arith}
 use lib.Dec.{ltb}
 use lib.ListN.{length, getD, take, drop, length-append}
 use lib.Seq.{take-append-seam}
-use borrow.Author.Tests.{lt-ltb, le-ltb, lt-leb, le-leb}
+use borrow.Author.Tests.{lt-ltb, le-ltb}
 use Rattle.whole.specs.Lists.{tabulate, length-tabulate, getD-tabulate}
 use Rattle.refusal.specs.declared.Params.{Params}
 use Rattle.refusal.specs.declared.Refusal.{Refusal}
-use Rattle.refusal.specs.First.{doneOr-done, doneOr-refused}
+use Rattle.refusal.specs.First.{firstOf, doneOr, rising, Lowest, first-lowest, first-last, doneOr-done, doneOr-refused}
 use Rattle.circuit.specs.Circuits.{byKind}
 use Rattle.circuit.specs.Records.{kind-neither}
 use Rattle.circuitfile.specs.File.{field, fileInputs, fileGateCount, fileGate, fileParams, fileBounds, checkNumber}
-use Rattle.circuitfile.specs.Text.{wordIN, wordXOR, wordAND, wordNOT, wordOK, wordREFUSED, decimal, wireLine, kindWord, wireLines, okLine, refusedLine, largestBound, text, textAnswer, textBuffer}
+use Rattle.circuitfile.specs.Text.{wordIN, wordXOR, wordAND, wordNOT, wordOK, wordREFUSED, decimal, wireLine, kindWord, wireLines, okLine, refusedLine, largestBound, text, textRows, printed, textAnswer, textBuffer}
 use Rattle.circuitfile.specs.Order.{checkRefusal}
 use Rattle.circuitfile.specs.Wires.{length-bounds}
 use Rattle.circuitfile.specs.Digits.{decimal-few}
@@ -110,22 +110,35 @@ module _ (file : List ℕ) {a : Refusal} (e : a ≡ checkRefusal file) where
   unfolding text
   text-done z = sym (doneOr-done _ _ (sym number ∙ z))
 
--- ---- the buffer, and what the call answers
+-- ---- in a lent buffer
+
+-- the number is the lowest that applies, and 0 exactly when none does
+pub text-lowest : (file : List ℕ) (room : ℕ) → Lowest (textRows file room) (textAnswer file room .number)
+unfolding rising textRows textAnswer
+text-lowest file room = first-lowest (textRows file room) 0 refl
 
 module _ (file out : List ℕ) where
-  pub text-short : length out < length (text file) → (0 ≡ textAnswer file out) × (out ≡ textBuffer file out)
+  -- what the call answers and leaves, by its number
+  answered : {k : ℕ} → firstOf (textRows file (length out)) ≡ k
+      → (printed k (doneOr k (length (text file)) 0) ≡ textAnswer file (length out)) × (doneOr k (text file ++ drop (length (text file)) out) out ≡ textBuffer file out)
   unfolding textAnswer textBuffer
-  text-short h = let t = lt-leb (length (text file)) (length out) h in (rw t, rw t)
+  answered e = rw e (refl, refl)
 
-  -- where the buffer has room for the text, the text stands at its front, and what is answered is its length
-  pub text-fits : length (text file) ≤ length out → (length (text file) ≡ textAnswer file out) × (text file ++ drop (length (text file)) out ≡ textBuffer file out)
-  unfolding textAnswer textBuffer
-  text-fits h = let t = le-leb (length (text file)) (length out) h in (rw t, rw t)
+  -- a buffer that is too short
+  pub text-short : length out < length (text file) → (printed 3 0 ≡ textAnswer file (length out)) × (out ≡ textBuffer file out)
+  unfolding textRows doneOr
+  text-short h = answered (first-last 3 _ ∙ rw (lt-ltb (length out) (length (text file)) h))
 
-  pub text-front : length (text file) ≤ length out → (textAnswer file out ≤ length (textBuffer file out)) × (take (textAnswer file out) (textBuffer file out) ≡ text file)
-  unfolding textAnswer textBuffer
+  -- where it has room for the text, the text stands at its front, and what is answered is its length
+  pub text-fits : length (text file) ≤ length out → (printed 0 (length (text file)) ≡ textAnswer file (length out)) × (text file ++ drop (length (text file)) out ≡ textBuffer file out)
+  unfolding textRows doneOr
+  text-fits h = answered (first-last 3 _ ∙ rw (le-ltb (length out) (length (text file)) h))
+
+  pub text-front : length (text file) ≤ length out
+      → (textAnswer file (length out) .length ≤ length (textBuffer file out)) × (take (textAnswer file (length out) .length) (textBuffer file out) ≡ text file)
   text-front h =
-      rw (le-leb (length (text file)) (length out) h)
+      let t = text-fits h in
+      rw (sym (t .0), sym (t .1))
       (omega (arith, length-append (text file) (drop (length (text file)) out)), take-append-seam (text file) (drop (length (text file)) out))
 
 -- ---- how long they are

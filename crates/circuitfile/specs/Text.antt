@@ -2,11 +2,12 @@
 use mathlib.Core.Bool.{cond}
 use mathlib.Core.List.{List, [], _∷_, _++_, flatMap}
 use Prim.Native.Nat.{ℕ, zero, suc, _+_, _-_, _/_, _%_}
-use lib.Dec.{leb, ltb}
+use lib.Dec.{ltb}
 use lib.ListN.{length, getD, drop}
 use Rattle.whole.specs.Lists.{tabulate}
-use Rattle.refusal.specs.First.{doneOr}
+use Rattle.refusal.specs.First.{Row, row, firstOf, doneOr}
 use Rattle.circuit.specs.Circuits.{byKind}
+use Rattle.circuitfile.specs.declared.Printed.{Printed}
 use Rattle.circuitfile.specs.File.{fileParams, fileInputs, fileGateCount, fileGate, fileBounds, checkNumber, filePlace}
 
 -- ---- words, in ASCII
@@ -85,10 +86,19 @@ text file =
     (wireLines file ++ okLine file)
     (refusedLine (checkNumber file) (filePlace file (checkNumber file)))
 
--- written into a lent buffer: the text's length, or 0 where the buffer is shorter than the text
-unfoldable pub textAnswer : List ℕ → List ℕ → ℕ
-textAnswer file out = cond (leb (length (text file)) (length out)) (length (text file)) 0
+-- ---- in a lent buffer
 
--- the text stands at the front and the rest is as found; a buffer that is too short is left as found
+-- 3 where the buffer, of which `room` is the length, is shorter than the text
+unfoldable pub textRows : List ℕ → ℕ → List Row
+textRows file room = row 3 (ltb room (length (text file))) ∷ []
+
+abbrev pub printed : ℕ → ℕ → Printed
+printed k long = record { number = k; place = 0; length = long }
+
+-- the text's length
+unfoldable pub textAnswer : List ℕ → ℕ → Printed
+textAnswer file room = let k = firstOf (textRows file room) in printed k (doneOr k (length (text file)) 0)
+
+-- the text stands at the front, and the rest is as found
 unfoldable pub textBuffer : List ℕ → List ℕ → List ℕ
-textBuffer file out = cond (leb (length (text file)) (length out)) (text file ++ drop (length (text file)) out) out
+textBuffer file out = doneOr (firstOf (textRows file (length out))) (text file ++ drop (length (text file)) out) out

@@ -3,6 +3,8 @@
 use mathlib.Core.Path.{_≡_, sym, _∙_}
 use mathlib.Core.List.{List}
 use Prim.Native.Nat.{ℕ}
+use lib.ListN.{length}
+use Rattle.circuitfile.specs.declared.Printed.{Printed}
 use Rattle.circuitfile.specs.File.{checkAnswer, planFileAnswer, planFileBuffer}
 use Rattle.circuitfile.specs.Text.{textAnswer, textBuffer}
 
@@ -22,8 +24,8 @@ planFile-unique file found a b = (a .0 ∙ sym (b .0), a .1 ∙ sym (b .1))
 
 -- ---- the text: `found` is the lent buffer at entry, `out` the same at exit
 
-abbrev pub TextPromise : List ℕ → List ℕ → ℕ → List ℕ → Type 0
-TextPromise file found r out = (r ≡ textAnswer file found) × (out ≡ textBuffer file found)
+abbrev pub TextPromise : List ℕ → List ℕ → Printed → List ℕ → Type 0
+TextPromise file found r out = (r ≡ textAnswer file (length found)) × (out ≡ textBuffer file found)
 
-pub text-unique : (file found : List ℕ) {r r′ : ℕ} {out out′ : List ℕ} → TextPromise file found r out → TextPromise file found r′ out′ → (r ≡ r′) × (out ≡ out′)
+pub text-unique : (file found : List ℕ) {r r′ : Printed} {out out′ : List ℕ} → TextPromise file found r out → TextPromise file found r′ out′ → (r ≡ r′) × (out ≡ out′)
 text-unique file found a b = (a .0 ∙ sym (b .0), a .1 ∙ sym (b .1))

@@ -14,6 +14,7 @@ ghost use Rattle.gatfile.specs.Writing.{Written};
 use crate::line::put_pair;
 use crate::line::put_wire;
 use crate::write::put;
+use circuitfile::Printed;
 use filehead::params;
 use filehead::wire_count;
 use gatfile::settle::WIRES;
@@ -61,10 +62,10 @@ fn put_text(file: &[u8], table: &mut [u32], out: &mut [u8]) -> usize
     put_bounds(file, &table[0..wires], out)
 }
 
-// Writes the text at the front of the buffer and answers its length; where the buffer is shorter than the text, answers 0 and writes nothing. No
-// text is longer than 102,432 bytes.
-pub fn text(file: &[u8], out: &mut [u8]) -> usize
-    ensures { λ r. ⌜ r ≡ textAnswer (now (file .entry)) (now (out .entry)) ⌝ }
+// Writes the text at the front of the buffer and answers its length. A buffer that is shorter than the text is refused with 3, and nothing is
+// written. No text is longer than 102,432 bytes.
+pub fn text(file: &[u8], out: &mut [u8]) -> Printed
+    ensures { λ r. ⌜ r ≡ textAnswer (now (file .entry)) (length (now (out .entry))) ⌝ }
     ensures { λ r. ⌜ now (out .exit) ≡ textBuffer (now (file .entry)) (now (out .entry)) ⌝ }
     ensures { λ r. ⌜ length (fileText (now (file .entry))) ≤ 102432 ⌝ }
 {
@@ -72,7 +73,16 @@ pub fn text(file: &[u8], out: &mut [u8]) -> usize
     let mut room = [0u8; ROOM];
     let long = put_text(file, &mut table, &mut room);
     if out.len() < long {
-        return 0;
+        return Printed {
+            number: 3,
+            place: 0,
+            length: 0,
+        };
     }
-    put(&room[0..long], 0, out)
+    put(&room[0..long], 0, out);
+    Printed {
+        number: 0,
+        place: 0,
+        length: long,
+    }
 }
