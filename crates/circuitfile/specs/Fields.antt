@@ -1,36 +1,36 @@
--- Fields read in two parts: what stands in front, and then the rest, as big-endian has it.
-use mathlib.Core.Path.{_≡_, sym, ap, _∙_}
-use mathlib.Core.List.{List, [], _∷_, _++_, foldl, foldl-append}
-use Prim.Native.Nat.{ℕ, _+_, _*_, _^_, _≤_, _<_}
-use native.Mathlib.Nat.{pow-suc}
+-- Fields read in two parts: what stands in front, and then the rest, as big-endian has it; and a field past the end of the file, which is 0.
+use mathlib.Core.Path.{_≡_, refl, ap, _∙_}
+use mathlib.Core.List.{List}
+use Prim.Native.Nat.{ℕ, zero, suc, _+_, _*_, _≤_}
+use native.Mathlib.Nat.{add-zero}
 use native.Mathlib.Omega.{arith}
-use lib.ListN.{length, getD, take, drop, length-drop}
-use lib.Seq.{take-add, drop-drop, drop-cons, length-take-le}
+use lib.ListN.{length, getD, List·getD-eq-default}
+use Rattle.whole.specs.Lists.{tabulate, tabulate-cong}
 use Rattle.circuitfile.specs.File.{bigEndian, field}
 
-more : (w x y z : ℕ) → w * (256 * x + y) + z ≡ w * 256 * x + (w * (256 * 0 + y) + z)
-more w x y z = omega arith
+zeros : (n : ℕ) → bigEndian (tabulate n (λ i. 0)) ≡ 0
+unfolding bigEndian tabulate
+zeros zero = refl
+zeros (suc n) = zeros n
 
--- what was read counts 256 times for each byte after it
-fold-from : (x : ℕ) (ys : List ℕ) → foldl (λ x byte. 256 * x + byte) x ys ≡ 256 ^ length ys * x + foldl (λ x byte. 256 * x + byte) 0 ys
-fold-from x [] = omega arith
-fold-from x (y ∷ ys) =
-    fold-from (256 * x + y) ys ∙ rw pow-suc (more (256 ^ length ys) x y _ ∙ ap (λ (z : ℕ). 256 ^ length ys * 256 * x + z) (sym (fold-from (256 * 0 + y) ys)))
+module _ (file : List ℕ) (at : ℕ) where
+  -- a field of one byte is the byte
+  pub field-one : field file at 1 ≡ getD file at 0
+  unfolding field bigEndian tabulate
+  field-one = rw (add-zero at) (omega arith)
 
-pub big-endian-append : (xs ys : List ℕ) → bigEndian (xs ++ ys) ≡ 256 ^ length ys * bigEndian xs + bigEndian ys
-unfolding bigEndian
-big-endian-append xs ys = foldl-append (λ x byte. 256 * x + byte) 0 xs ys ∙ fold-from (foldl (λ x byte. 256 * x + byte) 0 xs) ys
+  -- one of two bytes is the first and then the second
+  pub field-two : field file at 2 ≡ 256 * field file at 1 + field file (at + 1) 1
+  unfolding field bigEndian tabulate
+  field-two = rw (add-zero (at + 1)) (omega arith)
 
--- a field of one byte is the byte
-pub field-one : (file : List ℕ) (at : ℕ) → at + 1 ≤ length file → field file at 1 ≡ getD file at 0
-unfolding field bigEndian
-field-one file at h =
-    let inside : at < length file = omega arith in
-    rw (drop-cons file at 0) (omega arith)
+  -- and one of four is the first two and then the other two
+  pub field-four : field file at 4 ≡ 65536 * field file at 2 + field file (at + 2) 2
+  unfolding field bigEndian tabulate
+  field-four =
+      let last : at + 2 + 1 ≡ at + 3 = omega arith in
+      rw (add-zero (at + 2), last) (omega arith)
 
--- and one of a + b bytes is that of a bytes and that of the b bytes after them
-pub field-parts : (file : List ℕ) (at a b : ℕ) → at + (a + b) ≤ length file → field file at (a + b) ≡ 256 ^ b * field file at a + field file (at + a) b
-unfolding field
-field-parts file at a b h =
-    let long : length (take b (drop (at + a) file)) ≡ b = length-take-le b (drop (at + a) file) (simp length-drop (omega arith)) in
-    rw (take-add, drop-drop, big-endian-append, long)
+  pub field-past : (width : ℕ) → length file ≤ at → field file at width ≡ 0
+  unfolding field
+  field-past width h = ap bigEndian (tabulate-cong width _ _ (λ i inside. List·getD-eq-default file 0 (omega arith))) ∙ zeros width

@@ -4,7 +4,7 @@ use mathlib.Core.Bool.{Bool, not, _&&_}
 use mathlib.Core.List.{List, [], _∷_, _++_, flatMap, foldl}
 use Prim.Native.Nat.{ℕ, _+_, _*_, _/_, _%_}
 use lib.Dec.{ltb, eqb}
-use lib.ListN.{length, getD, take, drop, replicate}
+use lib.ListN.{length, getD, replicate}
 use Rattle.whole.specs.Lists.{tabulate}
 use Rattle.refusal.specs.declared.Params.{Params}
 use Rattle.refusal.specs.First.{Row, row, firstOf, doneOr}
@@ -18,9 +18,9 @@ use Rattle.circuit.specs.Circuits.{badCounts, boundsOf, gateRows, placeOf}
 unfoldable pub bigEndian : List ℕ → ℕ
 bigEndian bytes = foldl (λ x byte. 256 * x + byte) 0 bytes
 
--- the field of `width` bytes at the offset `at`
+-- the field of `width` bytes at the offset `at`; past the end of the file a byte is 0, and such a file is refused
 unfoldable pub field : List ℕ → ℕ → ℕ → ℕ
-field file at width = bigEndian (take width (drop at file))
+field file at width = bigEndian (tabulate width (λ i. getD file (at + i) 0))
 
 -- the mark GAT, and 16-bit version 1
 unfoldable pub isKnown : List ℕ → Bool

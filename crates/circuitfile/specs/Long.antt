@@ -9,7 +9,7 @@ use native.Mathlib.Omega.{arith}
 use lib.ListN.{length, take}
 use lib.Seq.{length-take-le, getD-take}
 use borrow.Author.Tests.{le-ltb, ne-eqb}
-use Rattle.whole.specs.Lists.{part-take}
+use Rattle.whole.specs.Lists.{tabulate-cong}
 use Rattle.refusal.specs.First.{firstOf}
 use Rattle.scheme.specs.Calls.{badParams, differs}
 use Rattle.scheme.specs.Passed.{differs-is}
@@ -25,7 +25,7 @@ use Rattle.circuitfile.specs.Lines.{pairLine, text-refused}
 module _ (file : List ℕ) (n : ℕ) (h : 23 ≤ n) where
   field-same : (at width : ℕ) → at + width ≤ 23 → field (take n file) at width ≡ field file at width
   unfolding field
-  field-same at width g = ap bigEndian (part-take at width n file (omega arith))
+  field-same at width g = ap bigEndian (tabulate-cong width _ _ (λ i inside. getD-take n file (at + i) 0 (omega arith)))
 
   known-same : isKnown (take n file) ≡ isKnown file
   unfolding isKnown

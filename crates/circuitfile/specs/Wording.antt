@@ -1,5 +1,5 @@
--- Facts that show that the file's and the text's definitions are document 01's sentences: four bytes and decimal digits give
--- back the number that they were made of, and the largest bound that fits is the largest.
+-- Facts that show that the file's and the text's definitions are document 01's sentences: a field is the bytes that stand there, four bytes and decimal
+-- digits give back the number that they were made of, and the largest bound that fits is the largest.
 use mathlib.Core.Path.{_≡_, refl, sym, ap, _∙_}
 use mathlib.Core.Bool.{Bool, true, false, cond}
 use mathlib.Core.List.{List, [], _∷_, _++_, foldl, foldl-append}
@@ -7,10 +7,21 @@ use Prim.Native.Nat.{ℕ, zero, suc, _+_, _*_, _-_, _/_, _%_, _≤_, _<_}
 use native.Mathlib.Nat.{not-suc-le-zero, div-div-eq-div-mul, div-add-mod}
 use native.Mathlib.Omega.{arith}
 use lib.Dec.{ltb}
+use lib.ListN.{length, take, drop, length-drop}
+use lib.Seq.{getD-drop}
 use borrow.Author.Tests.{ltb-true, ltb-false, lt-ltb}
+use Rattle.whole.specs.Lists.{tabulate-cong, tabulate-take}
 use Rattle.scheme.specs.Arithmetic.{fits}
-use Rattle.circuitfile.specs.File.{bigEndian, fourBytes}
+use Rattle.circuitfile.specs.File.{bigEndian, field, fourBytes}
 use Rattle.circuitfile.specs.Text.{decimalUpTo, decimal, largestBound}
+
+-- where the file reaches past a field, the field is its bytes
+pub field-inside : (file : List ℕ) (at width : ℕ) → at + width ≤ length file → field file at width ≡ bigEndian (take width (drop at file))
+unfolding field
+field-inside file at width h =
+    ap bigEndian
+    (tabulate-cong width _ _ (λ i inside. sym (getD-drop at file i 0))
+    ∙ tabulate-take width (drop at file) 0 (omega (arith, length-drop at file)))
 
 pub four-bytes-read : (x : ℕ) → x < 4294967296 → bigEndian (fourBytes x) ≡ x
 unfolding bigEndian fourBytes

@@ -17,8 +17,7 @@ use crate::write::put;
 use circuitfile::Printed;
 use filehead::params;
 use filehead::wire_count;
-use gatfile::settle::WIRES;
-use gatfile::settle::checked;
+use gatfile::bounds;
 
 // Room for any text: 20 bytes for each of 5,120 wires, and 32 for the last line.
 pub const ROOM: usize = 102432;
@@ -49,16 +48,17 @@ fn put_bounds(file: &[u8], bounds: &[u32], out: &mut [u8]) -> usize
     put_pair(b"OK ", bounds[last] as u64, largest as u64, at, out)
 }
 
-// The text, where there is room for any. The table is for the bounds.
-fn put_text(file: &[u8], table: &mut [u32], out: &mut [u8]) -> usize
-    requires { ⌜ (5120 ≤ length (now table)) × (102432 ≤ length (now out)) ⌝ }
+// The text, where there is room for any.
+fn put_text(file: &[u8], out: &mut [u8]) -> usize
+    requires { ⌜ 102432 ≤ length (now out) ⌝ }
     ensures { λ r. ⌜ Written (fileText (now (file .entry))) (now (out .entry)) (now (out .exit)) 0 r ⌝ }
 {
-    let r = checked(file, table);
+    let r = bounds(file);
     if r.number != 0 {
         return put_pair(b"REFUSED ", r.number as u64, r.place, 0, out);
     }
     let wires = wire_count(file);
+    let table = r.bounds;
     put_bounds(file, &table[0..wires], out)
 }
 
@@ -69,9 +69,8 @@ pub fn text(file: &[u8], out: &mut [u8]) -> Printed
     ensures { λ r. ⌜ now (out .exit) ≡ textBuffer (now (file .entry)) (now (out .entry)) ⌝ }
     ensures { λ r. ⌜ length (fileText (now (file .entry))) ≤ 102432 ⌝ }
 {
-    let mut table = [0u32; WIRES];
     let mut room = [0u8; ROOM];
-    let long = put_text(file, &mut table, &mut room);
+    let long = put_text(file, &mut room);
     if out.len() < long {
         return Printed {
             number: 3,

@@ -21,20 +21,20 @@ written file out {new} {long} {to} e w =
     (ap (printed 0) e ∙ t .0, w .whole ∙ ap (λ (n : ℕ). text file ++ drop n out) end ∙ t .1)
 
 -- the text has room in the array
-few : (c : tie.After-put-text) → length (text (c .before .before .before .before .before .args .file .now)) ≤ 102432
+few : (c : tie.After-put-text) → length (text (c .before .before .before .before .args .file .now)) ≤ 102432
 few c = omega (arith, c .put-text .ensures .stop, c .put-text .ensures .room)
 
 returns : tie.Need-returns
 returns c =
-    let w = c .before .before .before .put-text .ensures in
-    let a = c .before .before .before .before .before .before .before .before .args in
+    let w = c .before .before .put-text .ensures in
+    let a = c .before .before .before .before .before .before .args in
     let t = text-short (a .file .now) (a .out .now) (omega (arith, c .if1 .taken, w .stop)) in
-    (t .0, (t .1, few (c .before .before .before)))
+    (t .0, (t .1, few (c .before .before)))
 
 returns-2 : tie.Need-returns-2
 returns-2 c =
-    let p = c .before .before .before .before .before .before .before .before .before in
-    let a = p .before .before .before .before .before .args in
+    let p = c .before .before .before .before .before .before .before .before in
+    let a = p .before .before .before .before .args in
     let long : p .put-text .result ≡ length (text (a .file .now)) = omega (arith, p .put-text .ensures .stop) in
     let t = written (a .file .now) (a .out .now) long (written-as (rw sub-zero (written-front (p .put-text .ensures))) (c .before .before .put .ensures)) in
     (t .0, (t .1, few p))
@@ -43,7 +43,6 @@ pub text-spec : {M : Type 1} → statement M
 text-spec =
     tie.close
     (tie.spec
-    (λ c. search needs)
     (λ c. search needs)
     (λ c κs. search needs)
     returns
