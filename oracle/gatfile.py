@@ -41,6 +41,14 @@ class Look(NamedTuple):
     bounds: list = ()
 
 
+class Printed(NamedTuple):
+    """The answer of the text in a lent buffer: the text's length."""
+
+    number: int
+    place: int = 0
+    length: int = 0
+
+
 def read_head(data):
     """The head of a file of at least 23 bytes."""
     mark, version, n, q, L, E, F, inputs, gates = HEAD.unpack(data[: HEAD.size])
@@ -113,10 +121,10 @@ def printed(data, rules=PAPER):
 def print_file(data, buffer, rules=PAPER):
     """The text in a lent byte buffer. Answers its length and writes it at the front.
 
-    A buffer that is shorter than the text stays as it is, and the answer is 0.
+    A buffer that is shorter than the text is refused with 3 and stays as it is.
     """
     text = printed(data, rules).encode()
     if len(buffer) < len(text):
-        return 0
+        return Printed(3)
     buffer[: len(text)] = text
-    return len(text)
+    return Printed(0, 0, len(text))

@@ -27,7 +27,7 @@ REFUSALS = {
     ENCRYPT: (1, 3, 4, 5, 6, 7), DECRYPT: (1, 3, 4, 6), XOR: (1, 3, 6, 8, 10),
     NOT: (1, 3, 6, 8), AND: (1, 3, 6, 8, 10), PLAN: (1, 2, 3, 8, 9, 10),
     EVALUATE: (1, 2, 3, 6, 8, 9, 10), CHECK_FILE: (1, 2, 9, 10, 11, 12),
-    PLAN_FILE: (1, 2, 3, 9, 10, 11, 12), PRINT_FILE: (1, 2, 9, 10, 11, 12),
+    PLAN_FILE: (1, 2, 3, 9, 10, 11, 12), PRINT_FILE: (3,),
     PLAN_GATES: (1, 2, 3, 8, 9, 10), EVALUATE_GATES: (1, 2, 3, 6, 8, 9, 10),
 }
 

@@ -157,11 +157,11 @@ def file_figures():
         ((CHECK_FILE, [EXAMPLE_FILE]), [0]),
         ((PLAN_FILE, [EXAMPLE_FILE, [9] * 20]), [0] + EXAMPLE_BOUNDS),
         ((PLAN_FILE, [EXAMPLE_FILE, [9] * 19]), [3 * 65536] + [9] * 19),
-        ((PRINT_FILE, [EXAMPLE_FILE, [9] * long]), [long] + EXAMPLE_TEXT),
-        ((PRINT_FILE, [EXAMPLE_FILE, [9] * (long + 3)]), [long] + EXAMPLE_TEXT + [9] * 3),
-        ((PRINT_FILE, [EXAMPLE_FILE, [9] * (long - 1)]), [0] + [9] * (long - 1)),
+        ((PRINT_FILE, [EXAMPLE_FILE, [9] * long]), [0, 0, long] + EXAMPLE_TEXT),
+        ((PRINT_FILE, [EXAMPLE_FILE, [9] * (long + 3)]), [0, 0, long] + EXAMPLE_TEXT + [9] * 3),
+        ((PRINT_FILE, [EXAMPLE_FILE, [9] * (long - 1)]), [3, 0, 0] + [9] * (long - 1)),
         ((CHECK_FILE, [loud]), [10 * 65536]),
-        ((PRINT_FILE, [loud, [9] * len(over)]), [len(over)] + over),
+        ((PRINT_FILE, [loud, [9] * len(over)]), [0, 0, len(over)] + over),
     ]
 
 

@@ -141,8 +141,9 @@ def file_answer(number, lent, rules):
     if number == CHECK_FILE:
         return [engine.check_file(data, rules)]
     buffer = bytearray(lent[1])
-    do = engine.plan_file if number == PLAN_FILE else engine.print_file
-    return [do(data, buffer, rules), *buffer]
+    if number == PLAN_FILE:
+        return [engine.plan_file(data, buffer, rules), *buffer]
+    return [*engine.print_file(data, buffer, rules), *buffer]
 
 
 def answered(call, rules=PAPER):

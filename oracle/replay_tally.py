@@ -27,13 +27,10 @@ SINGLE_CALLS = [kind for kind in NAMES if kind not in CIRCUIT_CALLS + RECORD_CAL
 
 
 def number_of(call, answer):
-    """The number that a call gives. Those of the bench key maker and of the printer are those of the
-    checks."""
+    """The number that a call gives. That of the bench key maker is that of its check."""
     if call[0] == MAKE_BENCH_KEY:
         return answered((CHECK_BENCH_KEY, call[1]))[0]
-    if call[0] == PRINT_FILE:
-        return answered((CHECK_FILE, call[1][:1]))[0] // 65536
-    return answer[0] // 65536 if call[0] in FILE_CALLS else answer[0]
+    return answer[0] // 65536 if call[0] in (CHECK_FILE, PLAN_FILE) else answer[0]
 
 
 def is_wide(p, left, right, key):
@@ -123,11 +120,12 @@ class Files:
     """What was seen of circuit files."""
 
     def __init__(self):
-        self.late = Counter()  # 9 and 10 at a gate that is not the first
-        self.room = Counter()  # texts of accepted files, by how much longer the buffer is
-        self.short = 0         # texts that had no room
-        self.longest = 0       # text
-        self.largest = 0       # file, in bytes
+        self.late = Counter()   # 9 and 10 at a gate that is not the first
+        self.room = Counter()   # texts of accepted files, by how much longer the buffer is
+        self.texts = Counter()  # texts, by what the file's check gives
+        self.short = 0          # texts that had no room
+        self.longest = 0        # text
+        self.largest = 0        # file, in bytes
 
     def take(self, call, answer, number):
         """Counts a call."""
@@ -136,26 +134,32 @@ class Files:
         if kind == CHECK_FILE and number in (9, 10):
             self.late[number] += answer[0] % 65536 > 0
         if kind == PRINT_FILE:
-            self.take_text(fields, answer[0], number)
+            self.take_text(fields, answer[2], number)
 
     def take_text(self, fields, printed, number):
-        """Counts a text."""
+        """Counts a text, of which so many bytes were printed."""
         length = printed or len(engine.printed(bytes(fields[0])))
+        checked = answered((CHECK_FILE, fields[:1]))[0] // 65536
         self.longest = max(self.longest, printed)
-        self.short += printed == 0
-        if number == 0:
+        self.texts[checked] += 1
+        self.short += number == 3
+        if checked == 0:
             self.room[len(fields[1]) - length] += 1
 
     def seldom(self, least):
-        """Which texts of accepted files were seen fewer than so many times."""
-        return [f"fewer than {least} texts of accepted files in a buffer {what}"
-                for over, what in ((0, "just long enough"), (-1, "one byte too short"))
-                if self.room[over] < least]
+        """Which texts were seen fewer than so many times."""
+        few = [f"fewer than {least} texts of accepted files in a buffer {what}"
+               for over, what in ((0, "just long enough"), (-1, "one byte too short"))
+               if self.room[over] < least]
+        return few + [f"fewer than {least} texts of files that the check gives {number}"
+                      for number in (0,) + REFUSALS[CHECK_FILE] if self.texts[number] < least]
 
     def show(self):
         """Prints what was seen."""
         print("files refused with 9 and 10 at a gate after the first: "
               f"{self.late[9]} and {self.late[10]}, most bytes of a file: {self.largest}")
+        numbers = " ".join(f"{k}:{self.texts[k]}" for k in (0,) + REFUSALS[CHECK_FILE])
+        print(f"texts by what the file's check gives: {numbers}")
         print(f"texts of accepted files in a buffer just long enough: {self.room[0]}, "
               f"one byte too short: {self.room[-1]}, texts without room in all: {self.short}, "
               f"longest text: {self.longest} bytes")

@@ -45,11 +45,11 @@ class Example(unittest.TestCase):
         for data, text in ((EXAMPLE_FILE, EXAMPLE_TEXT.encode()), (b"", b"REFUSED 12 0\n")):
             for length in (0, 1, len(text) - 1):
                 buffer = bytearray(b"\xaa" * length)
-                self.assertEqual(engine.print_file(data, buffer), 0)
+                self.assertEqual(engine.print_file(data, buffer), (3, 0, 0))
                 self.assertEqual(buffer, b"\xaa" * length)
             for more in (0, 1, 100):
                 buffer = bytearray(b"\xaa" * (len(text) + more))
-                self.assertEqual(engine.print_file(data, buffer), len(text))
+                self.assertEqual(engine.print_file(data, buffer), (0, 0, len(text)))
                 self.assertEqual(buffer, text + b"\xaa" * more)
 
     def test_as_a_program(self):

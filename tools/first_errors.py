@@ -12,7 +12,8 @@ import re
 import sys
 
 ROOT = pathlib.Path(__file__).resolve().parent.parent
-ERROR = re.compile(r"^\S*/(specs|proofs|src)/(\S+?):(\d+):\d+: error: (.*)$", re.M)
+# An error; or, of a function that has no proof file, what the prover's own search could not show.
+ERROR = re.compile(r"^(?:|note: what antt said of a `search` in the proof that rattle made: )\S*/((?:specs|proofs|src)/\S+?:\d+):\d+: (?:error: |(?=`))(.*)$", re.M)
 NO_NAME = re.compile(r"not in scope|no module")
 WIDTH = 150
 
@@ -21,7 +22,7 @@ def first_error(edit):
     """Where the first error stands and what it says, or None where the edit was not tried."""
     log = ROOT / "target" / "must-fail" / edit.parent.parent.name / edit.stem / ".log"
     found = log.exists() and ERROR.search(log.read_text(encoding="utf-8", errors="replace"))
-    return found and (f"{found[1]}/{found[2]}:{found[3]}", found[4])
+    return found and (found[1], found[2])
 
 
 def edited_lines(edit):

@@ -2,7 +2,7 @@
 ghost use mathlib.Core.Path.{_≡_};
 ghost use Prim.Native.Nat.{_≤_};
 ghost use lib.ListN.{length, take};
-ghost use Rattle.io.specs.Counts.{CountIn};
+ghost use Rattle.io.specs.Counts.{Counts};
 ghost use Rattle.circuitfile.specs.Text.{text};
 use libc::STDERR_FILENO;
 use libc::STDIN_FILENO;
@@ -31,7 +31,7 @@ fn read_some(part: &mut [u8]) -> Input
 
 // Reads until the buffer is full, the input ends or a read fails.
 fn read_input(file: &mut [u8]) -> Input
-    ensures { λ r. ⌜ CountIn (r .len) (now (file .exit)) ⌝ }
+    ensures { λ r. ⌜ Counts (r .len) (now (file .exit)) ⌝ }
 {
     let mut len = 0;
     while len < file.len() {
@@ -51,9 +51,9 @@ fn read_input(file: &mut [u8]) -> Input
 fn render(file: &[u8], out: &mut [u8]) -> usize
     requires { ⌜ 102432 ≤ length (now out) ⌝ }
     ensures { λ r. ⌜ take r (now (out .exit)) ≡ text (now (file .entry)) ⌝ }
-    ensures { λ r. ⌜ CountIn r (now (out .exit)) ⌝ }
+    ensures { λ r. ⌜ Counts r (now (out .exit)) ⌝ }
 {
-    text::text(file, out)
+    text::text(file, out).length
 }
 
 fn main() {

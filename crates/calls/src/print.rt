@@ -2,6 +2,7 @@
 ghost use Prim.Native.Nat.{_≤_};
 ghost use lib.ListN.{length};
 ghost use Rattle.stream.specs.Bounds.{Placed};
+use circuitfile::Printed;
 use refusal::Made;
 use refusal::Params;
 use refusal::Refusal;
@@ -77,6 +78,15 @@ pub fn decrypted(text: &mut [u8], at: usize, r: Decrypted) -> usize
     let to = unsigned(text, at, r.number as u64);
     let after = unsigned(text, to, r.place);
     unsigned(text, after, r.bit as u64)
+}
+
+// Puts a number, its place and a text's length.
+pub fn printed(text: &mut [u8], at: usize, r: Printed) -> usize
+    ensures { λ r. ⌜ Placed r (now (text .entry)) (now (text .exit)) ⌝ }
+{
+    let to = unsigned(text, at, r.number as u64);
+    let after = unsigned(text, to, r.place);
+    unsigned(text, after, r.length as u64)
 }
 
 // Puts n, q, L, E and F.

@@ -1,13 +1,13 @@
-// The head of a circuit file, its first 23 bytes, and the refusals before those of the gates.
+// The head of a circuit file, its first 23 bytes, and the refusals before those of the gates. The readers take any file: past its end every byte is 0.
 pub mod field;
 
 ghost use mathlib.Core.Path.{_≡_};
-ghost use Prim.Native.Nat.{_+_, _≤_, _<_};
-ghost use lib.ListN.{length};
+ghost use Prim.Native.Nat.{_+_, _<_};
 ghost use Rattle.refusal.specs.First.{firstOf};
 ghost use Rattle.circuitfile.specs.File.{fileParams, fileInputs, fileGateCount, isKnown, headRows};
 use checks::are_bad_counts;
 use field::four;
+use field::one;
 use field::two;
 use refusal::Params;
 use refusal::row;
@@ -17,15 +17,16 @@ pub const HEAD: usize = 23;
 
 // Whether the file begins with the mark GAT and version 1.
 pub fn is_known(file: &[u8]) -> bool
-    requires { ⌜ 23 ≤ length (now file) ⌝ }
     ensures { λ r. ⌜ r ≡ isKnown (now (file .entry)) ⌝ }
 {
-    (file[0] == b'G') & (file[1] == b'A') & (file[2] == b'T') & (two(file, 3) == 1)
+    (one(file, 0) == b'G' as u32)
+        & (one(file, 1) == b'A' as u32)
+        & (one(file, 2) == b'T' as u32)
+        & (two(file, 3) == 1)
 }
 
 // n, q, L, E and F.
 pub fn params(file: &[u8]) -> Params
-    requires { ⌜ 23 ≤ length (now file) ⌝ }
     ensures { λ r. ⌜ r ≡ fileParams (now (file .entry)) ⌝ }
 {
     Params {
@@ -39,7 +40,6 @@ pub fn params(file: &[u8]) -> Params
 
 // How many inputs the file has.
 pub fn inputs(file: &[u8]) -> u32
-    requires { ⌜ 23 ≤ length (now file) ⌝ }
     ensures { λ r. ⌜ (r ≡ fileInputs (now (file .entry))) × (r < 65536) ⌝ }
 {
     two(file, 19)
@@ -47,7 +47,6 @@ pub fn inputs(file: &[u8]) -> u32
 
 // How many gates the file has.
 pub fn gate_count(file: &[u8]) -> usize
-    requires { ⌜ 23 ≤ length (now file) ⌝ }
     ensures { λ r. ⌜ (r ≡ fileGateCount (now (file .entry))) × (r < 65536) ⌝ }
 {
     two(file, 21) as usize
@@ -55,7 +54,6 @@ pub fn gate_count(file: &[u8]) -> usize
 
 // How many wires the file has: its inputs, and one for each gate.
 pub fn wire_count(file: &[u8]) -> usize
-    requires { ⌜ 23 ≤ length (now file) ⌝ }
     ensures { λ r. ⌜ (r ≡ fileInputs (now (file .entry)) + fileGateCount (now (file .entry))) × (r < 131072) ⌝ }
 {
     inputs(file) as usize + gate_count(file)
@@ -65,12 +63,10 @@ pub fn wire_count(file: &[u8]) -> usize
 pub fn head_number(file: &[u8]) -> u32
     ensures { λ r. ⌜ r ≡ firstOf (headRows (now (file .entry))) ⌝ }
 {
-    if file.len() < HEAD {
-        return 12;
-    }
     let gates = gate_count(file);
     let after = row(12, file.len() != HEAD + 5 * gates, 0);
     let counts = row(2, are_bad_counts(inputs(file), gates), after);
     let ranges = row(1, !params(file).in_range(), counts);
-    row(11, !is_known(file), ranges)
+    let known = row(11, !is_known(file), ranges);
+    row(12, file.len() < HEAD, known)
 }

@@ -1,24 +1,27 @@
 -- Planning a file whose head is right: its gates are lent as three lists and its inputs at bound E, and what planning then answers and leaves is what
 -- 9, 10 and the bounds of the file are.
 use mathlib.Core.Path.{_≡_, refl, sym, ap, ap₂, _∙_}
+use mathlib.Core.Logic.{_≢_}
 use mathlib.Core.Bool.{true, false}
 use mathlib.Core.List.{List, _∷_, _++_}
-use Prim.Native.Nat.{ℕ, zero, suc, _+_, _<_}
+use Prim.Native.Nat.{ℕ, zero, suc, _+_, _≤_, _<_}
 use native.Mathlib.Omega.{arith}
 use lib.ListN.{length, getD, take, drop, replicate, getD-replicate, length-append, length-drop}
-use lib.Seq.{take-at, length-take-le}
+use lib.Seq.{take-at, take-append-seam, length-take-le}
 use Rattle.whole.specs.Tests.{or-neither}
 use Rattle.whole.specs.Lists.{tabulate, length-tabulate, getD-tabulate, every, getD-every}
 use Rattle.refusal.specs.declared.Params.{Params}
 use Rattle.refusal.specs.declared.Refusal.{Refusal}
-use Rattle.refusal.specs.First.{firstOf, doneOr, doneOr-done}
+use Rattle.refusal.specs.First.{firstOf, doneOr, doneOr-done, doneOr-refused}
+use Rattle.refusal.specs.Parameters.{refused}
 use Rattle.scheme.specs.Arithmetic.{fits}
 use Rattle.scheme.specs.Passed.{lengths-same, below-fits}
 use Rattle.circuit.specs.declared.Gate.{Gate}
 use Rattle.circuit.specs.Core.{records, uneven, planCoreRows, planCoreAnswer, planCoreBounds}
-use Rattle.circuitfile.specs.File.{fileParams, fileInputs, fileGateCount, fileGate, fileGates, fileInputBounds, fileBounds, fileGateRows, filePlace}
-use Rattle.circuitfile.specs.Order.{HeadRight, gateAnswer}
-use Rattle.circuitfile.specs.Wires.{length-inputs}
+use Rattle.gatfile.specs.declared.settle.FileBounds.{FileBounds}
+use Rattle.circuitfile.specs.File.{fileParams, fileInputs, fileGateCount, fileGate, fileGates, fileInputBounds, fileBounds, fileGateRows, checkNumber, filePlace}
+use Rattle.circuitfile.specs.Order.{HeadRight, gateAnswer, checkRefusal}
+use Rattle.circuitfile.specs.Wires.{length-inputs, length-bounds}
 
 -- one part of each gate, and so the kinds, the lefts and the rights
 unfoldable pub fileColumn : List ℕ → (Gate → ℕ) → List ℕ
@@ -114,3 +117,45 @@ module _ (file : List ℕ) where
   pub settled-all : (found : List ℕ) {a : Refusal} {out : List ℕ} → a ≡ gateAnswer file → a .number ≡ 0 → out ≡ settledBounds file found → out ≡ fileBounds file
   unfolding gateAnswer settledBounds
   settled-all found e z w = w ∙ doneOr-done _ _ (sym (ap (λ (a : Refusal). a .number) e) ∙ z)
+
+-- ---- the check of a file, with the bounds of all wires
+
+abbrev pub fileBoundsOf : Refusal → List ℕ → FileBounds
+fileBoundsOf a table = record { number = a .number; place = a .place; bounds = table }
+
+module _ (file : List ℕ) where
+  -- the bounds at the front of a table, and the rest as it was; on a refusal all of it
+  unfoldable pub boundsIn : List ℕ → List ℕ
+  boundsIn table = doneOr (checkNumber file) (fileBounds file ++ drop (length (fileBounds file)) table) table
+
+  -- in a table of zeros, one for each wire that a circuit may have
+  unfoldable pub boundsAnswer : FileBounds
+  boundsAnswer = fileBoundsOf (checkRefusal file) (boundsIn (replicate 5120 0))
+
+  module _ (table : List ℕ) {a : Refusal} (e : a ≡ checkRefusal file) where
+    number-is : checkNumber file ≡ a .number
+    unfolding checkRefusal
+    number-is = sym (ap (λ (a : Refusal). a .number) e)
+
+    pub bounds-refused : a .number ≢ 0 → fileBoundsOf a table ≡ fileBoundsOf (checkRefusal file) (boundsIn table)
+    unfolding boundsIn
+    bounds-refused h = ap₂ fileBoundsOf e (sym (doneOr-refused _ table (λ z. h (sym number-is ∙ z))))
+
+    pub bounds-done : {Bs : List ℕ} {n : ℕ} → a .number ≡ 0 → Bs ≡ fileBounds file → n ≡ fileInputs file + fileGateCount file
+        → fileBoundsOf a (Bs ++ drop n table) ≡ fileBoundsOf (checkRefusal file) (boundsIn table)
+    unfolding boundsIn
+    bounds-done z f l =
+        ap₂ fileBoundsOf e (ap₂ (λ (Bs : List ℕ) (n : ℕ). Bs ++ drop n table) f (l ∙ sym (length-bounds file)) ∙ sym (doneOr-done _ table (number-is ∙ z)))
+
+  module _ {r : FileBounds} (e : r ≡ boundsAnswer) where
+    -- the number and the place are the check's
+    pub bounds-refusal : refused (r .number) (r .place) ≡ checkRefusal file
+    unfolding boundsAnswer
+    bounds-refusal = ap (λ (r : FileBounds). refused (r .number) (r .place)) e
+
+    -- and where the number is 0, the bounds stand at the front
+    pub bounds-front : r .number ≡ 0 → (length (fileBounds file) ≤ length (r .bounds)) × (take (length (fileBounds file)) (r .bounds) ≡ fileBounds file)
+    unfolding boundsAnswer boundsIn
+    bounds-front z =
+        let whole = ap (λ (r : FileBounds). r .bounds) e ∙ doneOr-done _ _ (number-is (replicate 5120 0) bounds-refusal ∙ z) in
+        rw whole (omega (arith, length-append (fileBounds file) (drop (length (fileBounds file)) (replicate 5120 0))), take-append-seam (fileBounds file) _)

@@ -1,3 +1,6 @@
 // The circuit file in code: its check, and planning on its bytes.
 pub mod plan;
-pub mod settle;
+mod settle;
+
+pub use settle::FileBounds;
+pub use settle::bounds;

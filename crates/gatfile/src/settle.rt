@@ -1,11 +1,11 @@
 // The gates of a file whose head is right, and the bounds of its wires.
 ghost use mathlib.Core.Path.{_≡_};
-ghost use Prim.Native.Nat.{_+_, _*_, _≤_};
-ghost use lib.ListN.{length, take, replicate};
+ghost use Prim.Native.Nat.{_+_, _*_};
+ghost use lib.ListN.{length, replicate};
 ghost use Rattle.refusal.specs.First.{firstOf};
-ghost use Rattle.circuitfile.specs.File.{fileInputs, fileGateCount, fileBounds, headRows};
-ghost use Rattle.circuitfile.specs.Order.{gateAnswer, checkRefusal};
-ghost use Rattle.gatfile.specs.Settled.{fileKinds, fileLefts, fileRights, settledBounds};
+ghost use Rattle.circuitfile.specs.File.{fileInputs, fileGateCount, headRows};
+ghost use Rattle.circuitfile.specs.Order.{gateAnswer};
+ghost use Rattle.gatfile.specs.Settled.{fileKinds, fileLefts, fileRights, settledBounds, boundsAnswer};
 use filehead::HEAD;
 use filehead::field::one;
 use filehead::field::two;
@@ -21,6 +21,13 @@ const GATES: usize = 4096;
 
 // The most wires of a circuit.
 pub const WIRES: usize = 5120;
+
+// What the check of a file answers: number and place, and the bounds of all wires at the front of a table, which is 0 elsewhere and on a refusal.
+pub struct FileBounds {
+    pub number: u32,
+    pub place: u64,
+    pub bounds: [u32; WIRES],
+}
 
 // Lists the gates of the file.
 fn read_gates(file: &[u8], kinds: &mut [u32], lefts: &mut [u32], rights: &mut [u32])
@@ -91,16 +98,31 @@ pub fn settle(file: &[u8], table: &mut [u32]) -> Refusal
     )
 }
 
-// The check of a file, number and place apart; where the number is 0 the table begins with the bounds of all wires.
-pub fn checked(file: &[u8], table: &mut [u32]) -> Refusal
-    requires { ⌜ 5120 ≤ length (now table) ⌝ }
-    ensures { λ r. ⌜ r ≡ checkRefusal (now (file .entry)) ⌝ }
-    ensures { λ r. ⌜ (r .number ≡ 0 → take (fileInputs (now (file .entry)) + fileGateCount (now (file .entry))) (now (table .exit)) ≡ fileBounds (now (file .entry))) ⌝ }
+// The check of a file, number and place apart, with the bounds of all wires at the front of a table.
+pub fn bounds(file: &[u8]) -> FileBounds
+    ensures { λ r. ⌜ r ≡ boundsAnswer (now (file .entry)) ⌝ }
 {
     let number = head_number(file);
     if number != 0 {
-        return Refusal { number, place: 0 };
+        return FileBounds {
+            number,
+            place: 0,
+            bounds: [0u32; WIRES],
+        };
     }
     let wires = wire_count(file);
-    settle(file, &mut table[0..wires])
+    let mut table = [0u32; WIRES];
+    let settled = settle(file, &mut table[0..wires]);
+    if settled.number != 0 {
+        return FileBounds {
+            number: settled.number,
+            place: settled.place,
+            bounds: [0u32; WIRES],
+        };
+    }
+    FileBounds {
+        number: settled.number,
+        place: settled.place,
+        bounds: table,
+    }
 }

@@ -33,12 +33,11 @@ pub fn plan(call: &[i64], text: &mut [u8], at: usize) -> usize
     put_planned(text, at, &file[0..n], &mut bounds[0..b])
 }
 
-// Prints into `out`; puts the length and `out`.
+// Prints into `out`; puts the answer and `out`.
 fn put_printed(text: &mut [u8], at: usize, file: &[u8], out: &mut [u8]) -> usize
     ensures { λ r. ⌜ Placed r (now (text .entry)) (now (text .exit)) ⌝ }
 {
-    let length = text::text(file, out);
-    let to = print::unsigned(text, at, length as u64);
+    let to = print::printed(text, at, text::text(file, out));
     print::bytes(text, to, out)
 }
 

@@ -14,10 +14,10 @@ ghost use Rattle.gatfile.specs.Writing.{Written};
 use crate::line::put_pair;
 use crate::line::put_wire;
 use crate::write::put;
+use circuitfile::Printed;
 use filehead::params;
 use filehead::wire_count;
-use gatfile::settle::WIRES;
-use gatfile::settle::checked;
+use gatfile::bounds;
 
 // Room for any text: 20 bytes for each of 5,120 wires, and 32 for the last line.
 pub const ROOM: usize = 102432;
@@ -48,31 +48,40 @@ fn put_bounds(file: &[u8], bounds: &[u32], out: &mut [u8]) -> usize
     put_pair(b"OK ", bounds[last] as u64, largest as u64, at, out)
 }
 
-// The text, where there is room for any. The table is for the bounds.
-fn put_text(file: &[u8], table: &mut [u32], out: &mut [u8]) -> usize
-    requires { ⌜ (5120 ≤ length (now table)) × (102432 ≤ length (now out)) ⌝ }
+// The text, where there is room for any.
+fn put_text(file: &[u8], out: &mut [u8]) -> usize
+    requires { ⌜ 102432 ≤ length (now out) ⌝ }
     ensures { λ r. ⌜ Written (fileText (now (file .entry))) (now (out .entry)) (now (out .exit)) 0 r ⌝ }
 {
-    let r = checked(file, table);
+    let r = bounds(file);
     if r.number != 0 {
         return put_pair(b"REFUSED ", r.number as u64, r.place, 0, out);
     }
     let wires = wire_count(file);
+    let table = r.bounds;
     put_bounds(file, &table[0..wires], out)
 }
 
-// Writes the text at the front of the buffer and answers its length; where the buffer is shorter than the text, answers 0 and writes nothing. No
-// text is longer than 102,432 bytes.
-pub fn text(file: &[u8], out: &mut [u8]) -> usize
-    ensures { λ r. ⌜ r ≡ textAnswer (now (file .entry)) (now (out .entry)) ⌝ }
+// Writes the text at the front of the buffer and answers its length. A buffer that is shorter than the text is refused with 3, and nothing is
+// written. No text is longer than 102,432 bytes.
+pub fn text(file: &[u8], out: &mut [u8]) -> Printed
+    ensures { λ r. ⌜ r ≡ textAnswer (now (file .entry)) (length (now (out .entry))) ⌝ }
     ensures { λ r. ⌜ now (out .exit) ≡ textBuffer (now (file .entry)) (now (out .entry)) ⌝ }
     ensures { λ r. ⌜ length (fileText (now (file .entry))) ≤ 102432 ⌝ }
 {
-    let mut table = [0u32; WIRES];
     let mut room = [0u8; ROOM];
-    let long = put_text(file, &mut table, &mut room);
+    let long = put_text(file, &mut room);
     if out.len() < long {
-        return 0;
+        return Printed {
+            number: 3,
+            place: 0,
+            length: 0,
+        };
     }
-    put(&room[0..long], 0, out)
+    put(&room[0..long], 0, out);
+    Printed {
+        number: 0,
+        place: 0,
+        length: long,
+    }
 }

@@ -14,7 +14,7 @@ returns c =
     let s = c .before .before .before .before .before .before in
     let t = c .before .before .text .ensures in
     let f = text-front (s .args .file .now) (s .args .out .now) (omega (arith, t .1 .1, s .pre)) in
-    let within : c .before .before .text .result ≤ length (c .before .before .text .last .1 .0) = rw (t .0, t .1 .0) (f .0) in
+    let within : c .before .before .text .result .length ≤ length (c .before .before .text .last .1 .0) = rw (t .0, t .1 .0) (f .0) in
     (rw (t .0, t .1 .0) (f .1), (within, sym (length-take-le _ _ within)))
 
 pub render-spec : {M : Type 1} → statement M

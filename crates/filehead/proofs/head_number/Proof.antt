@@ -1,6 +1,5 @@
--- `filehead::head_number` gives the number of the first row of the head that applies: the first by its test, and the others by the chain of `row`, last row first.
-use borrow.Author.Tests.{lt-ltb, le-ltb}
-use Rattle.refusal.specs.First.{firstOf}
+-- `filehead::head_number` gives the number of the first row of the head that applies, by the chain of `row`, last row first.
+use Rattle.refusal.specs.First.{first-row, first-none}
 use Rattle.scheme.specs.Passed.{params-is, differs-is}
 use Rattle.circuitfile.specs.File.{headRows}
 use borrow.Author.Needs.{needs}
@@ -8,20 +7,17 @@ use Rattle.filehead.proofs.head_number.Statement.{statement}
 use Rattle.filehead.proofs.head_number.Tie as tie
 
 returns : tie.Need-returns
-unfolding firstOf headRows
-returns c = simp (lt-ltb _ _ (c .if1 .taken))
-
-returns-2 : tie.Need-returns-2
-unfolding firstOf headRows
-returns-2 c =
-    let counts = c .before .before .before .before .before in
-    let start = counts .before .before .before .before .before in
+unfolding headRows
+returns c =
+    let known = c .before in
+    let counts = known .before .before .before .before .before in
     simp (
-      c .row4 .ensures,
-      c .before .is-known .ensures,
-      c .before .before .row3 .ensures,
-      c .before .before .before .in-range .ensures,
-      c .before .before .before .before .params .ensures,
+      c .row5 .ensures,
+      known .row4 .ensures,
+      known .before .is-known .ensures,
+      known .before .before .row3 .ensures,
+      known .before .before .before .in-range .ensures,
+      known .before .before .before .before .params .ensures,
       counts .row2 .ensures,
       counts .before .are-bad-counts .ensures,
       counts .before .before .inputs .ensures .0,
@@ -29,14 +25,14 @@ returns-2 c =
       counts .before .before .before .before .gate-count .ensures .0,
       params-is,
       differs-is,
-      le-ltb _ _ (start .if1 .left),
+      first-row,
+      first-none,
     )
 
 pub head-number-spec : {M : Type 1} → statement M
 head-number-spec =
     tie.close
     (tie.spec
-    returns
     (λ c κs. search needs)
     (λ c. search needs)
     (λ c. search needs)
@@ -49,4 +45,5 @@ head-number-spec =
     (λ c κs. search needs)
     (λ c κs. search needs)
     (λ c κs. search needs)
-    returns-2)
+    (λ c κs. search needs)
+    returns)

@@ -19,9 +19,6 @@ some s = omega (arith, ap length (s .pre .1) ∙ length-bounds _, head-right _ (
 sub-last : tie.Need-sub-last
 sub-last c = some (c .before .before .before .before .before .before .before)
 
-params-requires : tie.Need-params-requires
-params-requires c κs = head-right _ (c .before .before .before .before .before .before .before .pre .0) .enough
-
 positive : (c : tie.After-params) → 1 ≤ c .params .result .q
 positive c = rw (c .params .ensures) (omega (arith, head-right _ (c .before .before .before .before .before .before .before .before .pre .0) .range .q-low))
 
@@ -59,7 +56,7 @@ put-bounds-spec =
     (tie.spec
     (λ c κs. search needs)
     sub-last
-    params-requires
+    (λ c κs. search needs)
     sub-largest
     (λ c. search needs)
     (λ c. search needs)

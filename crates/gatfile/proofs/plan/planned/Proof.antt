@@ -21,9 +21,6 @@ returns c = planned-headed _ _ (c .before .head-number .ensures) (c .if1 .taken)
 ready : (c : tie.Else1) → HeadRight (c .before .before .before .before .args .file .now)
 ready c = head-right _ (sym (c .before .head-number .ensures) ∙ c .if1 .left)
 
-wire-count-requires : tie.Need-wire-count-requires
-wire-count-requires c κs = ready c .enough
-
 returns-2 : tie.Need-returns-2
 returns-2 c = planned-short _ _ (ready (c .before .before)) (λ e. c .if2 .taken (e ∙ ap (λ n. 4 * n) (sym (c .before .wire-count .ensures .0))))
 
@@ -62,7 +59,7 @@ planned-spec =
     (tie.spec
     (λ c κs. search needs)
     returns
-    wire-count-requires
+    (λ c κs. search needs)
     (λ c. search needs)
     returns-2
     (λ c. search needs)

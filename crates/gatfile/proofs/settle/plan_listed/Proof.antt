@@ -12,12 +12,6 @@ read-gates-requires c κs =
     let p = c .before .before .before .before .before .before .before .before .pre in
     (head-right _ (p .0) .long, p .1, p .2, p .3)
 
-params-requires : tie.Need-params-requires
-params-requires c κs = head-right _ (c .before .before .before .before .before .before .before .before .before .before .before .before .before .before .before .pre .0) .enough
-
-inputs-requires : tie.Need-inputs-requires
-inputs-requires c κs = head-right _ (c .before .before .before .before .before .before .before .before .before .before .before .before .before .before .before .before .pre .0) .enough
-
 returns : tie.Need-returns
 returns c =
     let f = c .before .before .before .before .before .before .before .before .before in
@@ -33,8 +27,8 @@ plan-listed-spec =
     tie.close
     (tie.spec
     read-gates-requires
-    params-requires
-    inputs-requires
+    (λ c κs. search needs)
+    (λ c κs. search needs)
     (λ c. search needs)
     (λ c. search needs)
     (λ c. search needs)

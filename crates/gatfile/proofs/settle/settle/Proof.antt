@@ -5,9 +5,6 @@ use borrow.Author.Needs.{needs}
 use Rattle.gatfile.proofs.settle.settle.Statement.{statement}
 use Rattle.gatfile.proofs.settle.settle.Tie as tie
 
-gate-count-requires : tie.Need-gate-count-requires
-gate-count-requires c κs = head-right _ (c .before .before .pre .0) .enough
-
 part-kinds-end : tie.Need-part-kinds-end
 part-kinds-end c = omega (arith, c .gate-count .ensures .0, head-right _ (c .before .before .before .pre .0) .gates-high)
 
@@ -21,7 +18,7 @@ pub settle-spec : {M : Type 1} → statement M
 settle-spec =
     tie.close
     (tie.spec
-    gate-count-requires
+    (λ c κs. search needs)
     (λ c. search needs)
     (λ c. search needs)
     part-kinds-end

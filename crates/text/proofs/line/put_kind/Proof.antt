@@ -12,9 +12,6 @@ use borrow.Author.Needs.{needs}
 use Rattle.text.proofs.line.put_kind.Statement.{statement}
 use Rattle.text.proofs.line.put_kind.Tie as tie
 
-inputs-requires : tie.Need-inputs-requires
-inputs-requires c κs = head-right _ (c .before .before .pre .0) .enough
-
 abbrev spaced : List ℕ → List ℕ
 spaced word = word ++ (32 ∷ [])
 
@@ -67,7 +64,7 @@ pub put-kind-spec : {M : Type 1} → statement M
 put-kind-spec =
     tie.close
     (tie.spec
-    inputs-requires
+    (λ c κs. search needs)
     (λ c. search needs)
     (λ c. search needs)
     (λ c κs. search needs)
