@@ -1,7 +1,9 @@
 -- What the proofs of several calls share: what a `_number` function takes from its first two tests, what a call leaves in its answer and in a
 -- buffer where it refuses and where it does not, and the sum that entry 0 of a ciphertext and row 0 of a switching key are the residues of.
-use mathlib.Core.Path.{_≡_, sym, _∙_, ap₂}
+use mathlib.Core.Path.{_≡_, sym, _∙_}
+use mathlib.Core.Logic.{_≢_}
 use mathlib.Core.Bool.{false}
+use mathlib.Core.List.{List}
 use Prim.Native.Nat.{ℕ, _≤_}
 use native.Mathlib.Omega.{arith}
 use lib.IntN.{ℤ, _+ℤ_, _-ℤ_, natAbs}
@@ -11,11 +13,11 @@ use Rattle.whole.specs.Size.{size-add, size-sub}
 use Rattle.whole.specs.Machine.{fits64}
 use Rattle.refusal.specs.declared.Params.{Params}
 use Rattle.refusal.specs.Parameters.{InRange}
-use Rattle.scheme.specs.Calls.{differs, bounded}
-use Rattle.scheme.specs.Passed.{length-is}
-use mathlib.Core.Logic.{_≢_}
-use Rattle.refusal.specs.First.{doneOr, doneOr-done, doneOr-refused}
+use Rattle.refusal.specs.First.{Row, refused, firstOf, placeOf, answerOf, doneOr, doneOr-done, doneOr-refused}
 use Rattle.scheme.specs.declared.Bounded.{Bounded}
+use Rattle.scheme.specs.declared.Decrypted.{Decrypted}
+use Rattle.scheme.specs.Calls.{differs, bounded, decrypted, states, decryptsTo}
+use Rattle.scheme.specs.Passed.{length-is}
 pub use Rattle.scheme.specs.Passed.{params-tested, answered-range}
 pub use Rattle.keys.specs.Moduli.{params-modulus}
 
@@ -27,6 +29,12 @@ short {p} {n} r d = omega (arith, r .n-high, length-is n (p .n) d)
 
 -- ---- refused, and done
 
+abbrev withBound : ℕ → ℕ → ℕ → Bounded
+withBound k at B = record { number = k; place = at; bound = B }
+
+abbrev withBit : ℕ → ℕ → ℕ → Decrypted
+withBit k at b = record { number = k; place = at; bit = b }
+
 -- the number n that was worked out is not 0: all is as found, and so it is by the definition
 pub refused-kept : {A : Type 0} {n k : ℕ} (a z : A) → n ≡ k → n ≢ 0 → z ≡ doneOr k a z
 refused-kept a z e h = sym (doneOr-refused a z (λ o. h (e ∙ o)))
@@ -35,14 +43,25 @@ refused-kept a z e h = sym (doneOr-refused a z (λ o. h (e ∙ o)))
 pub done-written : {A : Type 0} {k : ℕ} {x : A} (a z : A) → k ≡ 0 → x ≡ a → x ≡ doneOr k a z
 done-written a z o e = e ∙ sym (doneOr-done a z o)
 
-abbrev answer : ℕ → ℕ → Bounded
-answer k B = record { number = k; place = 0; bound = B }
+-- what is answered, of rows whose place is 0: the number, and beside it a bound or a bit where the call has one
+module _ (rows : List Row) (place : placeOf rows ≡ 0) where
+  three : {A : Type 0} (answer : ℕ → ℕ → ℕ → A) {n x y : ℕ} → n ≡ firstOf rows → x ≡ y → answer n 0 x ≡ answer (firstOf rows) (placeOf rows) y
+  three answer e f = rw (place, e, f)
 
-pub bounded-refused : {n k : ℕ} (B : ℕ) → n ≡ k → n ≢ 0 → answer n 0 ≡ bounded k B
-bounded-refused B e h = ap₂ answer e (refused-kept B 0 e h)
+  pub answer-given : {n : ℕ} → n ≡ firstOf rows → refused n 0 ≡ answerOf rows
+  answer-given e = rw (place, e)
 
-pub bounded-done : {k x : ℕ} (B : ℕ) → k ≡ 0 → x ≡ B → answer 0 x ≡ bounded k B
-bounded-done B o e = ap₂ answer (sym o) (done-written B 0 o e)
+  pub bounded-refused : {n : ℕ} (B : ℕ) → n ≡ firstOf rows → n ≢ 0 → withBound n 0 0 ≡ bounded rows B
+  bounded-refused B e h = three withBound e (refused-kept B 0 e h)
+
+  pub bounded-done : {x : ℕ} (B : ℕ) → firstOf rows ≡ 0 → x ≡ B → states x ≡ bounded rows B
+  bounded-done B o e = three withBound (sym o) (done-written B 0 o e)
+
+  pub decrypted-refused : {n : ℕ} (b : ℕ) → n ≡ firstOf rows → n ≢ 0 → withBit n 0 0 ≡ decrypted rows b
+  decrypted-refused b e h = three withBit e (refused-kept b 0 e h)
+
+  pub decrypted-done : {x : ℕ} (b : ℕ) → firstOf rows ≡ 0 → x ≡ b → decryptsTo x ≡ decrypted rows b
+  decrypted-done b o e = three withBit (sym o) (done-written b 0 o e)
 
 -- ---- the sum m − x + e, of which each part is at most 2^60 in size: nothing on the way wraps
 

@@ -3,7 +3,7 @@
 pub mod tests;
 
 ghost use mathlib.Core.Path.{_≡_};
-ghost use Rattle.scheme.specs.Calls.{keyCheckRows, keyCheckAnswer};
+ghost use Rattle.scheme.specs.Calls.{keyCheckLoans, keyCheckRows, KeyCheckPromise};
 ghost use Rattle.refusal.specs.First.{firstOf};
 use refusal::Params;
 use refusal::Refusal;
@@ -12,7 +12,7 @@ use tests::length_differs;
 
 // The number for a key: 1, 3, 4, or 0 where it fits.
 fn key_number(p: Params, s: &[i32]) -> u32
-    ensures { λ r. ⌜ r ≡ firstOf (keyCheckRows p (now (s .entry))) ⌝ }
+    ensures { λ r. ⌜ r ≡ firstOf (keyCheckRows (keyCheckLoans p (now (s .entry)))) ⌝ }
 {
     if !p.in_range() {
         return 1;
@@ -25,7 +25,7 @@ fn key_number(p: Params, s: &[i32]) -> u32
 
 // Key check: whether s is a key for the parameters. Refusals 1, 3, 4.
 pub fn check_key(p: Params, s: &[i32]) -> Refusal
-    ensures { λ r. ⌜ r ≡ keyCheckAnswer p (now (s .entry)) ⌝ }
+    ensures { λ r. ⌜ KeyCheckPromise (keyCheckLoans p (now (s .entry))) r ⌝ }
 {
     Refusal {
         number: key_number(p, s),

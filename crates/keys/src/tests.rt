@@ -1,10 +1,7 @@
 // The tests that refusals are made of.
 ghost use mathlib.Core.Path.{_≡_};
-ghost use mathlib.Core.Bool.{Bool, true, not};
 ghost use Prim.Native.Nat.{_*_, _≤_};
 ghost use lib.ListN.{length};
-ghost use Rattle.refusal.specs.Parameters.{InRange};
-ghost use Rattle.scheme.specs.Arithmetic.{isKey, fits};
 ghost use Rattle.scheme.specs.Calls.{differs, badKey, badBit, outside, exceeds, overBudget};
 ghost use Rattle.modular.specs.Loans.{Modulus};
 use modular::key::sum_of_sizes;
@@ -60,10 +57,10 @@ pub fn is_exceeding(limit: u32, errors: &[i64]) -> bool
     !all_within(errors, limit)
 }
 
-// 8 and 10: four times a bound is at or above q.
+// 8 and 10: four times a bound is at or above q, which is to say that the bound is at or above a quarter of q rounded up. Four times a bound could pass 64 bits, and
+// the quarter cannot, so that any bound may be asked about.
 pub fn is_over(q: u32, bound: u64) -> bool
-    requires { ⌜ bound ≤ 4611686018427387903 ⌝ }
     ensures { λ r. ⌜ r ≡ overBudget q bound ⌝ }
 {
-    !(4 * bound < (q as u64))
+    ((q as u64) + 3) / 4 <= bound
 }
