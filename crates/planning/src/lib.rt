@@ -6,7 +6,8 @@ ghost use Rattle.refusal.specs.First.{firstTrue, firstOf};
 ghost use Rattle.scheme.specs.Arithmetic.{XOR-bound, AND-bound, NOT-bound};
 ghost use Rattle.circuit.specs.Circuits.{byKind, overGates, boundsOf, records, asLists};
 ghost use Rattle.circuit.specs.Plan.{planLoans, planFront, PlanPromise};
-ghost use Rattle.planning.specs.Ready.{BoundReady, SettleReady};
+ghost use Rattle.gates.specs.Ready.{AndBoundReady};
+ghost use Rattle.planning.specs.Ready.{SettleReady};
 use checks::are_bad_counts;
 use checks::first_wrong;
 use checks::is_some_over;
@@ -16,7 +17,7 @@ use refusal::Refusal;
 
 // The bound of one gate's wire, before it is held to the budget.
 fn gate_bound(p: Params, kind: u32, b1: u32, b2: u32) -> u64
-    requires { ⌜ BoundReady p b1 b2 ⌝ }
+    requires { ⌜ AndBoundReady p b1 b2 ⌝ }
     ensures { λ r. ⌜ (r ≡ byKind kind (XOR-bound b1 b2) (AND-bound (p .n) (p .q) (p .l) (p .f) b1 b2) (NOT-bound b1)) × (r ≤ 1099511627776) ⌝ }
 {
     if kind == 0 {
