@@ -1,9 +1,9 @@
--- What the proofs of several calls share: what a `_number` function takes from its first two tests, what a call leaves in its answer and in a
+-- What the proofs of several calls share: how a `_number` function comes to its number, what a call leaves in its answer and in a
 -- buffer where it refuses and where it does not, and the sum that entry 0 of a ciphertext and row 0 of a switching key are the residues of.
 use mathlib.Core.Path.{_≡_, sym, _∙_}
 use mathlib.Core.Logic.{_≢_}
-use mathlib.Core.Bool.{false}
-use mathlib.Core.List.{List}
+use mathlib.Core.Bool.{Bool, true, false, cond, _||_}
+use mathlib.Core.List.{List, [], _∷_}
 use Prim.Native.Nat.{ℕ, _≤_}
 use native.Mathlib.Omega.{arith}
 use lib.IntN.{ℤ, _+ℤ_, _-ℤ_, natAbs}
@@ -13,7 +13,7 @@ use Rattle.whole.specs.Size.{size-add, size-sub}
 use Rattle.whole.specs.Machine.{fits64}
 use Rattle.refusal.specs.declared.Params.{Params}
 use Rattle.refusal.specs.Parameters.{InRange}
-use Rattle.refusal.specs.First.{Row, refused, firstOf, placeOf, answerOf, doneOr, doneOr-done, doneOr-refused}
+use Rattle.refusal.specs.First.{Row, row, refused, firstOf, placeOf, answerOf, doneOr, doneOr-done, doneOr-refused, first-row, first-none}
 use Rattle.scheme.specs.declared.Bounded.{Bounded}
 use Rattle.scheme.specs.declared.Decrypted.{Decrypted}
 use Rattle.scheme.specs.Calls.{differs, bounded, decrypted, states, decryptsTo}
@@ -26,6 +26,36 @@ pub use Rattle.keys.specs.Moduli.{params-modulus}
 -- a length that is n is short enough for `sum_of_sizes`
 pub short : {p : Params} {n : ℕ} → InRange p → differs n (p .n) ≡ false → n ≤ 1024
 short {p} {n} r d = omega (arith, r .n-high, length-is n (p .n) d)
+
+-- ---- the number, row by row, as a `_number` function comes to it
+
+-- n is the number of the rows
+pub record Gives (rows : List Row) (n : ℕ) : Type 0 where
+  pub number : n ≡ firstOf rows
+
+pub given : (rows : List Row) {n : ℕ} → Gives rows n → n ≡ firstOf rows
+given rows g = g .number
+
+pub none : Gives [] 0
+none = record { number = sym first-none }
+
+-- of a row's test t the function has the answer b
+module _ {k : ℕ} {b t : Bool} {rows : List Row} where
+  -- the row applies, and the function returns
+  pub stops : b ≡ t → b ≡ true → Gives (row k t ∷ rows) k
+  stops e f = record { number = rw (first-row, ← e, f) }
+
+  -- it does not, and the function goes on
+  pub passes : {n : ℕ} → b ≡ t → b ≡ false → Gives rows n → Gives (row k t ∷ rows) n
+  passes e f later = record { number = rw (first-row, ← e, f) (later .number) }
+
+  -- `refusal::row` answers, from the number m of the rows after it
+  pub asks : {n m : ℕ} → n ≡ cond b k m → b ≡ t → Gives rows m → Gives (row k t ∷ rows) n
+  asks n-is e later = record { number = rw (first-row, ← e, ← later .number) n-is }
+
+-- a row of several tests
+pub either : {a b c d : Bool} → a ≡ b → c ≡ d → (a || c) ≡ (b || d)
+either e f = rw (e, f)
 
 -- ---- refused, and done
 

@@ -1,16 +1,16 @@
-// Encryption and decryption: document 01's *Encrypt* and *Decrypt*. What each call answers and writes is defined in the crate scheme: this one has no
-// specs of its own. Every call takes arbitrary numbers and buffers and refuses bad ones by number; the functions that it works by stand beside it.
+// Encryption and decryption: document 01's *Encrypt* and *Decrypt*. What each call answers and writes is defined in the crate scheme, and what encryption's
+// worker asks here. Every call takes arbitrary numbers and buffers and refuses bad ones by number; the functions that it works by stand beside it.
 ghost use mathlib.Core.Path.{_≡_};
 ghost use mathlib.Core.Bool.{true};
-ghost use Prim.Native.Nat.{_+_, _*_, _≤_};
-ghost use lib.IntN.{natAbs};
+ghost use Prim.Native.Nat.{_≤_};
 ghost use lib.ListN.{length};
 ghost use Rattle.whole.specs.Lists.{every};
 ghost use Rattle.whole.specs.Inner.{sizes};
 ghost use Rattle.refusal.specs.First.{firstOf};
 ghost use Rattle.scheme.specs.Arithmetic.{isResidue, encrypt, decrypt};
-ghost use Rattle.scheme.specs.Calls.{encryptRows, encryptAnswer, encryptResult, decryptRows, decryptAnswer};
+ghost use Rattle.scheme.specs.Calls.{encryptLoans, encryptRows, EncryptPromise, decryptLoans, decryptRows, DecryptPromise};
 ghost use Rattle.modular.specs.Loans.{Modulus};
+ghost use Rattle.regev.specs.Ready.{EncryptReady};
 use keys::tests::is_bad_bit;
 use keys::tests::is_bad_key;
 use keys::tests::is_exceeding;
@@ -23,15 +23,18 @@ use refusal::Params;
 use scheme::Bounded;
 use scheme::Decrypted;
 
-// The number for an encryption into a buffer of `result` entries: 1, 3, 4, 5, 6, 7 or 0.
-fn encrypt_number(p: Params, s: &[i32], bit: u32, mask: &[i64], error: i64, result: usize) -> u32
-    ensures { λ r. ⌜ r ≡ firstOf (encryptRows p (now (s .entry)) bit (now (mask .entry)) error result) ⌝ }
+// The number for an encryption into `out`: 1, 3, 4, 5, 6, 7 or 0.
+fn encrypt_number(p: Params, s: &[i32], bit: u32, mask: &[i64], error: i64, out: &[i64]) -> u32
+    ensures { λ r. ⌜ r ≡ firstOf (encryptRows (encryptLoans p (now (s .entry)) bit (now (mask .entry)) error (now (out .entry)))) ⌝ }
 {
     if !p.in_range() {
         return 1;
     }
     let n = p.n as usize;
-    if length_differs(s.len(), n) | length_differs(mask.len(), n - 1) | length_differs(result, n) {
+    if length_differs(s.len(), n)
+        | length_differs(mask.len(), n - 1)
+        | length_differs(out.len(), n)
+    {
         return 3;
     }
     let seven = refusal::row(7, is_exceeding(p.e, &[error]), 0);
@@ -42,7 +45,7 @@ fn encrypt_number(p: Params, s: &[i32], bit: u32, mask: &[i64], error: i64, resu
 
 // Entry 0 of the encryption, and then the mask.
 fn encrypt_into(q: u32, s: &[i32], bit: u32, mask: &[i64], error: i64, out: &mut [i64])
-    requires { ⌜ Modulus q × (length (now s) ≡ length (now out)) × (length (now mask) + 1 ≡ length (now out)) × (sizes (now s) ≤ 4096) × (bit ≤ 1) × (every (isResidue q) (now mask) ≡ true) × (natAbs error ≤ 1048576) ⌝ }
+    requires { ⌜ EncryptReady q (now s) bit (now mask) error (now out) ⌝ }
     ensures { λ r. ⌜ now (out .exit) ≡ encrypt q (now (s .entry)) bit (now (mask .entry)) error ⌝ }
 {
     let half = (q as i64) / 2;
@@ -53,10 +56,9 @@ fn encrypt_into(q: u32, s: &[i32], bit: u32, mask: &[i64], error: i64, out: &mut
 
 // Encrypts a bit with a lent mask and error into `out`, and answers the stated bound E. Refusals 1, 3, 4, 5, 6, 7.
 pub fn encrypt(p: Params, s: &[i32], bit: u32, mask: &[i64], error: i64, out: &mut [i64]) -> Bounded
-    ensures { λ r. ⌜ r ≡ encryptAnswer p (now (s .entry)) bit (now (mask .entry)) error (length (now (out .entry))) ⌝ }
-    ensures { λ r. ⌜ now (out .exit) ≡ encryptResult p (now (s .entry)) bit (now (mask .entry)) error (now (out .entry)) ⌝ }
+    ensures { λ r. ⌜ EncryptPromise (encryptLoans p (now (s .entry)) bit (now (mask .entry)) error (now (out .entry))) r (now (out .exit)) ⌝ }
 {
-    let number = encrypt_number(p, s, bit, mask, error, out.len());
+    let number = encrypt_number(p, s, bit, mask, error, out);
     if number != 0 {
         return Bounded {
             number,
@@ -74,7 +76,7 @@ pub fn encrypt(p: Params, s: &[i32], bit: u32, mask: &[i64], error: i64, out: &m
 
 // The number for a decryption: 1, 3, 4, 6 or 0.
 fn decrypt_number(p: Params, s: &[i32], c: &[i64]) -> u32
-    ensures { λ r. ⌜ r ≡ firstOf (decryptRows p (now (s .entry)) (now (c .entry))) ⌝ }
+    ensures { λ r. ⌜ r ≡ firstOf (decryptRows (decryptLoans p (now (s .entry)) (now (c .entry)))) ⌝ }
 {
     if !p.in_range() {
         return 1;
@@ -105,7 +107,7 @@ fn decrypt_bit(q: u32, s: &[i32], c: &[i64]) -> u32
 
 // Decrypts a ciphertext, and answers the bit. Refusals 1, 3, 4, 6.
 pub fn decrypt(p: Params, s: &[i32], c: &[i64]) -> Decrypted
-    ensures { λ r. ⌜ r ≡ decryptAnswer p (now (s .entry)) (now (c .entry)) ⌝ }
+    ensures { λ r. ⌜ DecryptPromise (decryptLoans p (now (s .entry)) (now (c .entry))) r ⌝ }
 {
     let number = decrypt_number(p, s, c);
     if number != 0 {

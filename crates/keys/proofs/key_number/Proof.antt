@@ -1,34 +1,41 @@
 -- `key::key_number` gives the number of the first row that applies, by what each test ensures.
-use mathlib.Core.Path.{_≡_, sym, _∙_}
-use mathlib.Core.Bool.{false}
+use mathlib.Core.Path.{_≡_, sym, ap, _∙_}
+use mathlib.Core.Bool.{not}
 use borrow.Author.Needs.{needs}
-use Rattle.refusal.specs.First.{first-row, first-none}
-use Rattle.scheme.specs.Calls.{badParams, keyCheckRows}
-use Rattle.scheme.specs.Passed.{params-in-range}
-use Rattle.keys.specs.Chain.{short, params-tested}
+use Rattle.scheme.specs.Calls.{badParams, KeyCheckLoans, keyCheckLoans, keyCheckRows}
+use Rattle.keys.specs.Chain.{short, answered-range, given, stops, passes, asks, none}
 use Rattle.keys.proofs.key_number.Statement.{statement}
 use Rattle.keys.proofs.key_number.Tie as tie
 
-returns : tie.Need-returns
-unfolding keyCheckRows
-returns c = rw (first-row, params-tested _ (c .before .in-range .ensures) (c .if1 .taken))
+abbrev loans : tie.Start → KeyCheckLoans
+loans s = keyCheckLoans (s .args .p) (s .args .s .now)
 
-good : (c : tie.Else1) → badParams (c .before .before .args .p) ≡ false
-good c = params-tested _ (c .before .in-range .ensures) (c .if1 .left)
+returns : tie.Need-returns
+unfolding keyCheckRows badParams
+returns c = given (keyCheckRows (loans (c .before .before))) (stops (ap not (c .before .in-range .ensures)) (c .if1 .taken))
 
 returns-2 : tie.Need-returns-2
-unfolding keyCheckRows
-returns-2 c = simp (first-row, good (c .before .before .before), sym (c .before .length-differs .ensures), c .if2 .taken)
+unfolding keyCheckRows badParams
+returns-2 c =
+    let a = c .before .before .before in
+    given (keyCheckRows (loans (a .before .before)))
+    (passes (ap not (a .before .in-range .ensures)) (a .if1 .left)
+    (stops (c .before .length-differs .ensures) (c .if2 .taken)))
 
 is-bad-key-requires : tie.Need-is-bad-key-requires
 is-bad-key-requires c κs =
-    short (params-in-range _ (good (c .before .before .before))) (sym (c .before .length-differs .ensures) ∙ c .if2 .left)
+    let a = c .before .before .before in
+    short (answered-range _ (a .before .in-range .ensures) (a .if1 .left)) (sym (c .before .length-differs .ensures) ∙ c .if2 .left)
 
 returns-3 : tie.Need-returns-3
-unfolding keyCheckRows
+unfolding keyCheckRows badParams
 returns-3 c =
-    let before = c .before .before in
-    simp (first-row, first-none, good (before .before .before .before), sym (before .before .length-differs .ensures), before .if2 .left, c .row .ensures, c .before .is-bad-key .ensures)
+    let e = c .before .before in
+    let a = e .before .before .before in
+    given (keyCheckRows (loans (a .before .before)))
+    (passes (ap not (a .before .in-range .ensures)) (a .if1 .left)
+    (passes (e .before .length-differs .ensures) (e .if2 .left)
+    (asks (c .row .ensures) (c .before .is-bad-key .ensures) none)))
 
 pub key-number-spec : {M : Type 1} → statement M
 key-number-spec =

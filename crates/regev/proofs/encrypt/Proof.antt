@@ -1,43 +1,55 @@
 -- `cipher::encrypt` answers the number that `encrypt_number` ensures and leaves the buffer as found, and where it is 0 the bound E with
 -- the ciphertext that `encrypt_into` ensures, of which what it asks is in `EncryptReady`.
 use mathlib.Core.Path.{_≡_, refl, sym, _∙_}
-use lib.ListN.{length}
 use mir.Facts.{toZ-ofZ}
 use borrow.Author.Needs.{needs}
-use Rattle.refusal.specs.First.{firstOf, doneOr, doneOr-refused}
-use Rattle.scheme.specs.Calls.{encryptRows, encryptAnswer, encryptResult}
-use Rattle.regev.proofs.Ready.{EncryptReady, encrypt-ready}
+use Rattle.refusal.specs.First.{firstOf}
+use Rattle.scheme.specs.Calls.{EncryptLoans, encryptLoans, encryptRows, encryptAnswer, encryptResult}
+use Rattle.scheme.specs.Foremost.{encrypt-place}
+use Rattle.keys.specs.Chain.{refused-kept, done-written, bounded-refused, bounded-done}
+use Rattle.regev.proofs.Ready.{encrypt-ready}
 use Rattle.regev.proofs.encrypt.Statement.{statement}
 use Rattle.regev.proofs.encrypt.Tie as tie
 
-number : (c : tie.After-encrypt-number)
-    → let args = c .before .args in
-    c .encrypt-number .result ≡ firstOf (encryptRows (args .p) (args .s .now) (args .bit) (args .mask .now) (args .error) (length (args .out .now)))
-number c = simp (toZ-ofZ (c .before .fits .error)) at (c .encrypt-number .ensures)
+abbrev start : tie.After-encrypt-number → tie.Start
+start c = c .before .before
+
+abbrev loans : tie.After-encrypt-number → EncryptLoans
+loans c = let s = start c .args in encryptLoans (s .p) (s .s .now) (s .bit) (s .mask .now) (s .error) (s .out .now)
+
+number : (c : tie.After-encrypt-number) → c .encrypt-number .result ≡ firstOf (encryptRows (loans c))
+number c = simp (toZ-ofZ (start c .fits .error)) at (c .encrypt-number .ensures)
 
 returns : tie.Need-returns
 unfolding encryptAnswer encryptResult
-returns c = rw (← number (c .before)) (rw (doneOr-refused _ _ (c .if1 .taken)), sym (doneOr-refused _ _ (c .if1 .taken)))
+returns c =
+    let a = loans (c .before) in
+    let e = number (c .before) in
+    record {
+      answer = bounded-refused (encryptRows a) (encrypt-place a) _ e (c .if1 .taken);
+      result-left = refused-kept _ _ e (c .if1 .taken);
+    }
 
-ready : (c : tie.Else1)
-    → let args = c .before .before .args in
-    EncryptReady (args .p) (args .s .now) (args .bit) (args .mask .now) (args .error) (length (args .out .now))
-ready c = encrypt-ready _ _ _ _ _ _ (sym (number (c .before)) ∙ c .if1 .left)
+-- past the refusals
+done : (c : tie.Else1) → firstOf (encryptRows (loans (c .before))) ≡ 0
+done c = sym (number (c .before)) ∙ c .if1 .left
 
 encrypt-into-requires : tie.Need-encrypt-into-requires
 encrypt-into-requires c κs =
-    let r = ready (c .before) in
-    rw (toZ-ofZ (c .before .before .before .fits .error))
-    (r .modulus, r .key-length, r .mask-length, r .key-small, r .bit-small, r .residues, r .error-small)
+    let e = c .before in
+    rw (toZ-ofZ (start (e .before) .fits .error)) (encrypt-ready (loans (e .before)) (done e))
 
 returns-2 : tie.Need-returns-2
-unfolding encryptAnswer encryptResult doneOr
+unfolding encryptAnswer encryptResult
 returns-2 c =
     let e = c .before .before .before in
-    rw (← number (e .before), e .if1 .left)
-    (refl, simp (toZ-ofZ (e .before .before .fits .error)) at (c .before .encrypt-into .ensures))
+    let a = loans (e .before) in
+    record {
+      answer = bounded-done (encryptRows a) (encrypt-place a) _ (done e) refl;
+      result-left = done-written _ _ (done e) (simp (toZ-ofZ (start (e .before) .fits .error)) at (c .before .encrypt-into .ensures));
+    }
 
 pub encrypt-spec : {M : Type 1} → statement M
 encrypt-spec =
     tie.close
-    (tie.spec (λ c κs. search needs) returns encrypt-into-requires (λ c. search needs) returns-2)
+    (tie.spec (λ c κs. search needs) (λ c. search needs) returns encrypt-into-requires (λ c. search needs) returns-2)

@@ -27,27 +27,27 @@ use Rattle.regev.proofs.encrypt_into.Tie as tie
 -- what the machine reads back of q and the bit, and that q/2 and every number on the way to entry 0 fits
 module _ (c : tie.Start) where
   q-back : toZ w64 (c .args .q) ≡ pos (c .args .q)
-  q-back = toZ-pos w64 (omega (arith, c .pre .0 .high))
+  q-back = toZ-pos w64 (omega (arith, c .pre .modulus .high))
 
   bit-back : toZ w64 (c .args .bit) ≡ pos (c .args .bit)
-  bit-back = toZ-pos w64 (omega (arith, c .pre .4))
+  bit-back = toZ-pos w64 (omega (arith, c .pre .bit-small))
 
   half-fits : SFits w64 (half (c .args .q))
-  half-fits = fits64 _ (omega (arith, c .pre .0 .high))
+  half-fits = fits64 _ (omega (arith, c .pre .modulus .high))
 
   small : natAbs (inner (drop 1 (c .args .s .now)) (c .args .mask .now)) ≤ 2147483648
   small =
       omega (
         arith,
-        inner-size (drop 1 (c .args .s .now)) (residues-upto (c .args .q) 524288 (c .args .mask .now) (c .pre .0 .high) (c .pre .5)),
+        inner-size (drop 1 (c .args .s .now)) (residues-upto (c .args .q) 524288 (c .args .mask .now) (c .pre .modulus .high) (c .pre .mask-inside)),
         sizes-drop (c .args .s .now) 1,
-        c .pre .3,
+        c .pre .key-small,
       )
 
   steps : {x : ℤ} → x ≡ inner (drop 1 (c .args .s .now)) (c .args .mask .now) → Masked (pos (c .args .bit) *ℤ half (c .args .q)) x (c .args .error)
   steps is =
-      let product : natAbs (pos (c .args .bit) *ℤ half (c .args .q)) ≤ 1 * 524288 = mul-le-mul {m₂ = 524288} (c .pre .4) (omega (arith, c .pre .0 .high)) in
-      masked (omega arith) (rw is (omega (arith, small))) (omega (arith, c .pre .6))
+      let product : natAbs (pos (c .args .bit) *ℤ half (c .args .q)) ≤ 1 * 524288 = mul-le-mul {m₂ = 524288} (c .pre .bit-small) (omega (arith, c .pre .modulus .high)) in
+      masked (omega arith) (rw is (omega (arith, small))) (omega (arith, c .pre .error-small))
 
 div-half : tie.Need-div-half
 div-half c = rw (q-back c) (omega arith, half-fits c)
@@ -60,8 +60,8 @@ inner-product-requires c κs =
     let s = c .before .args .s .now in
     rw (part-to-end s 1) (
       omega (arith, length-drop 1 s),
-      omega (arith, sizes-drop s 1, c .before .pre .3),
-      residues-upto (c .before .args .q) 549755813888 (c .before .args .mask .now) (omega (arith, c .before .pre .0 .high)) (c .before .pre .5),
+      omega (arith, sizes-drop s 1, c .before .pre .key-small),
+      residues-upto (c .before .args .q) 549755813888 (c .before .args .mask .now) (omega (arith, c .before .pre .modulus .high)) (c .before .pre .mask-inside),
     )
 
 module _ (c : tie.After-inner-product) where
