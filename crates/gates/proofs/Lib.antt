@@ -1,2 +1,3 @@
 pub mod Added
 pub mod Ready
+pub mod Ends

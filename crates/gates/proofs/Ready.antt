@@ -1,90 +1,91 @@
 -- What the number 0 tells of the loans of XOR, NOT and AND: every test is false, so that the functions which these calls work by may be called.
-use mathlib.Core.Path.{_≡_, refl}
-use mathlib.Core.Bool.{true}
-use mathlib.Core.List.{List}
-use Prim.Native.Nat.{ℕ, _*_, _<_}
-use lib.IntN.{ℤ}
+use mathlib.Core.Path.{_≡_, refl, sym, _∙_}
+use Prim.Native.Nat.{_*_, _<_}
+use native.Mathlib.Omega.{arith}
 use lib.ListN.{length}
 use Rattle.whole.specs.Tests.{or-left, or-right}
-use Rattle.whole.specs.Lists.{every}
-use Rattle.refusal.specs.declared.Params.{Params}
-use Rattle.refusal.specs.First.{firstOf, rising, Clear, first-clear}
+use Rattle.refusal.specs.First.{firstOf, Clear}
+use Rattle.refusal.specs.Order.{positionIn, order, position, inOrder, first-clear}
 use Rattle.refusal.specs.Parameters.{InRange}
-use Rattle.scheme.specs.Arithmetic.{isResidue, XOR-bound, AND-bound}
-use Rattle.scheme.specs.Calls.{xorRows, notRows, andRows}
+use Rattle.scheme.specs.Arithmetic.{XOR-bound}
+use Rattle.scheme.specs.Calls.{XorLoans, xorRows, NotLoans, notRows, AndLoans, andBound, andRows}
 use Rattle.scheme.specs.Passed.{params-in-range, length-is, entries-inside, bound-fits}
+use Rattle.keys.specs.Chain.{params-modulus}
+use Rattle.gates.specs.Ready.{XorIntoReady, NotIntoReady, AndIntoReady, AndBoundReady}
 
-pub record XorReady (p : Params) (c : List ℤ) (B1 : ℕ) (d : List ℤ) (B2 result : ℕ) : Type 0 where
-  pub range : InRange p
-  pub left-long : length c ≡ p .n
-  pub right-long : length d ≡ p .n
-  pub room : result ≡ p .n
-  pub left-inside : every (isResidue (p .q)) c ≡ true
-  pub right-inside : every (isResidue (p .q)) d ≡ true
-  pub fits : 4 * XOR-bound B1 B2 < p .q
+pub record XorReady (a : XorLoans) : Type 0 where
+  pub range : InRange (a .p)
+  pub into : XorIntoReady (a .p .q) (a .left) (a .right) (a .result)
+  pub fits : 4 * XOR-bound (a .left-bound) (a .right-bound) < a .p .q
 
-pub xor-ready : (p : Params) (c : List ℤ) (B1 : ℕ) (d : List ℤ) (B2 result : ℕ) → firstOf (xorRows p c B1 d B2 result) ≡ 0
-    → XorReady p c B1 d B2 result
-unfolding xorRows rising
-xor-ready p c B1 d B2 result e =
-    let t : Clear (xorRows p c B1 d B2 result) = first-clear (xorRows p c B1 d B2 result) 0 refl e in
+pub xor-ready : (a : XorLoans) → firstOf (xorRows a) ≡ 0 → XorReady a
+unfolding positionIn order position inOrder xorRows
+xor-ready a e =
+    let t : Clear (xorRows a) = first-clear (xorRows a) refl e in
+    let r : InRange (a .p) = params-in-range (a .p) (t .0 .0) in
+    let left : length (a .left) ≡ a .p .n = length-is (length (a .left)) (a .p .n) (search (or-left, or-right, t .1 .0 .0) depth 8) in
+    let right : length (a .right) ≡ a .p .n = length-is (length (a .right)) (a .p .n) (search (or-left, or-right, t .1 .0 .0) depth 8) in
+    let room : length (a .result) ≡ a .p .n = length-is (length (a .result)) (a .p .n) (search (or-left, or-right, t .1 .0 .0) depth 8) in
     record {
-      range = params-in-range p (t .0);
-      left-long = length-is (length c) (p .n) (search (or-left, or-right, t .1 .0) depth 8);
-      right-long = length-is (length d) (p .n) (search (or-left, or-right, t .1 .0) depth 8);
-      room = length-is result (p .n) (search (or-left, or-right, t .1 .0) depth 8);
-      left-inside = entries-inside (p .q) c (search (or-left, t .1 .1 .0) depth 8);
-      right-inside = entries-inside (p .q) d (search (or-left, or-right, t .1 .1 .0) depth 8);
-      fits = bound-fits (p .q) (XOR-bound B1 B2) (t .1 .1 .1 .1 .0);
+      range = r;
+      into = record {
+        modulus = params-modulus r;
+        left-long = left ∙ sym room;
+        right-long = right ∙ sym room;
+        left-inside = entries-inside (a .p .q) (a .left) (search (or-left, t .1 .1 .0 .0) depth 8);
+        right-inside = entries-inside (a .p .q) (a .right) (search (or-left, or-right, t .1 .1 .0 .0) depth 8);
+      };
+      fits = bound-fits (a .p .q) (XOR-bound (a .left-bound) (a .right-bound)) (t .1 .1 .1 .1 .0 .0);
     }
 
-pub record NotReady (p : Params) (c : List ℤ) (B result : ℕ) : Type 0 where
-  pub range : InRange p
-  pub long : length c ≡ p .n
-  pub room : result ≡ p .n
-  pub inside : every (isResidue (p .q)) c ≡ true
-
-pub not-ready : (p : Params) (c : List ℤ) (B result : ℕ) → firstOf (notRows p c B result) ≡ 0 → NotReady p c B result
-unfolding notRows rising
-not-ready p c B result e =
-    let t : Clear (notRows p c B result) = first-clear (notRows p c B result) 0 refl e in
+pub not-ready : (a : NotLoans) → firstOf (notRows a) ≡ 0 → NotIntoReady (a .p .q) (a .ciphertext) (a .result)
+unfolding positionIn order position inOrder notRows
+not-ready a e =
+    let t : Clear (notRows a) = first-clear (notRows a) refl e in
+    let r : InRange (a .p) = params-in-range (a .p) (t .0 .0) in
+    let long : length (a .ciphertext) ≡ a .p .n = length-is (length (a .ciphertext)) (a .p .n) (search (or-left, t .1 .0 .0) depth 8) in
+    let room : length (a .result) ≡ a .p .n = length-is (length (a .result)) (a .p .n) (search (or-left, or-right, t .1 .0 .0) depth 8) in
     record {
-      range = params-in-range p (t .0);
-      long = length-is (length c) (p .n) (search (or-left, t .1 .0) depth 8);
-      room = length-is result (p .n) (search (or-left, or-right, t .1 .0) depth 8);
-      inside = entries-inside (p .q) c (t .1 .1 .0);
+      modulus = params-modulus r;
+      long = long ∙ sym room;
+      not-empty = omega (arith, r .n-low);
+      inside = entries-inside (a .p .q) (a .ciphertext) (t .1 .1 .0 .0);
     }
 
-pub record AndReady (p : Params) (c : List ℤ) (B1 : ℕ) (d : List ℤ) (B2 : ℕ) (W : List ℤ) (scratch result : ℕ) : Type 0 where
-  pub range : InRange p
-  pub left-long : length c ≡ p .n
-  pub right-long : length d ≡ p .n
-  pub key-long : length W ≡ p .n * (p .n * p .n)
-  pub scratch-long : scratch ≡ p .n * p .n
-  pub room : result ≡ p .n
-  pub left-inside : every (isResidue (p .q)) c ≡ true
-  pub right-inside : every (isResidue (p .q)) d ≡ true
-  pub key-inside : every (isResidue (p .q * p .q)) W ≡ true
-  pub left-fits : 4 * B1 < p .q
-  pub right-fits : 4 * B2 < p .q
-  pub fits : 4 * AND-bound (p .n) (p .q) (p .l) (p .f) B1 B2 < p .q
+pub record AndReady (a : AndLoans) : Type 0 where
+  pub room : length (a .result) ≡ a .p .n
+  pub into : AndIntoReady (a .p .q) (a .left) (a .right) (a .key) (a .scratch) (a .result)
+  pub bound : AndBoundReady (a .p) (a .left-bound) (a .right-bound)
+  pub fits : 4 * andBound a < a .p .q
 
-pub and-ready : (p : Params) (c : List ℤ) (B1 : ℕ) (d : List ℤ) (B2 : ℕ) (W : List ℤ) (scratch result : ℕ) → firstOf (andRows p c B1 d B2 W scratch result) ≡ 0
-    → AndReady p c B1 d B2 W scratch result
-unfolding andRows rising
-and-ready p c B1 d B2 W scratch result e =
-    let t : Clear (andRows p c B1 d B2 W scratch result) = first-clear (andRows p c B1 d B2 W scratch result) 0 refl e in
+pub and-ready : (a : AndLoans) → firstOf (andRows a) ≡ 0 → AndReady a
+unfolding positionIn order position inOrder andRows
+and-ready a e =
+    let t : Clear (andRows a) = first-clear (andRows a) refl e in
+    let r : InRange (a .p) = params-in-range (a .p) (t .0 .0) in
+    let n = a .p .n in
+    let left : length (a .left) ≡ a .p .n = length-is (length (a .left)) n (search (or-left, or-right, t .1 .0 .0) depth 8) in
+    let right : length (a .right) ≡ a .p .n = length-is (length (a .right)) n (search (or-left, or-right, t .1 .0 .0) depth 8) in
+    let key : length (a .key) ≡ a .p .n * (a .p .n * a .p .n) = length-is (length (a .key)) (n * (n * n)) (search (or-left, or-right, t .1 .0 .0) depth 8) in
+    let scratch : length (a .scratch) ≡ a .p .n * a .p .n = length-is (length (a .scratch)) (n * n) (search (or-left, or-right, t .1 .0 .0) depth 8) in
+    let room : length (a .result) ≡ a .p .n = length-is (length (a .result)) n (search (or-left, or-right, t .1 .0 .0) depth 8) in
     record {
-      range = params-in-range p (t .0);
-      left-long = length-is (length c) (p .n) (search (or-left, or-right, t .1 .0) depth 8);
-      right-long = length-is (length d) (p .n) (search (or-left, or-right, t .1 .0) depth 8);
-      key-long = length-is (length W) (p .n * (p .n * p .n)) (search (or-left, or-right, t .1 .0) depth 8);
-      scratch-long = length-is scratch (p .n * p .n) (search (or-left, or-right, t .1 .0) depth 8);
-      room = length-is result (p .n) (search (or-left, or-right, t .1 .0) depth 8);
-      left-inside = entries-inside (p .q) c (search (or-left, t .1 .1 .0) depth 8);
-      right-inside = entries-inside (p .q) d (search (or-left, or-right, t .1 .1 .0) depth 8);
-      key-inside = entries-inside (p .q * p .q) W (search (or-left, or-right, t .1 .1 .0) depth 8);
-      left-fits = bound-fits (p .q) B1 (search (or-left, t .1 .1 .1 .0) depth 8);
-      right-fits = bound-fits (p .q) B2 (search (or-left, or-right, t .1 .1 .1 .0) depth 8);
-      fits = bound-fits (p .q) (AND-bound (p .n) (p .q) (p .l) (p .f) B1 B2) (t .1 .1 .1 .1 .0);
+      room = room;
+      into = record {
+        modulus = params-modulus r;
+        high = omega (arith, r .n-high);
+        left-long = left ∙ sym room;
+        right-long = right ∙ sym room;
+        scratch-long = rw room scratch;
+        key-long = rw room key;
+        left-inside = entries-inside (a .p .q) (a .left) (search (or-left, t .1 .1 .0 .0) depth 8);
+        right-inside = entries-inside (a .p .q) (a .right) (search (or-left, or-right, t .1 .1 .0 .0) depth 8);
+        key-inside = entries-inside (a .p .q * a .p .q) (a .key) (search (or-left, or-right, t .1 .1 .0 .0) depth 8);
+      };
+      bound = record {
+        range = r;
+        left-fits = bound-fits (a .p .q) (a .left-bound) (search (or-left, t .1 .1 .1 .0 .0) depth 8);
+        right-fits = bound-fits (a .p .q) (a .right-bound) (search (or-left, or-right, t .1 .1 .1 .0 .0) depth 8);
+      };
+      fits = bound-fits (a .p .q) (andBound a) (t .1 .1 .1 .1 .0 .0);
     }

@@ -1,15 +1,12 @@
-// XOR, NOT and AND: document 01's *XOR*, *NOT* and *AND*. What each call answers and writes is defined in the crate scheme: this one has no specs of its
-// own. Every call takes arbitrary numbers and buffers and refuses bad ones by number; the functions that it works by, which a circuit calls too, stand beside it.
+// XOR, NOT and AND: document 01's *XOR*, *NOT* and *AND*. What each call answers and writes is defined in the crate scheme, and what the functions that it works
+// by ask here. Every call takes arbitrary numbers and buffers and refuses bad ones by number; those functions, which a circuit calls too, stand beside it.
 ghost use mathlib.Core.Path.{_≡_};
-ghost use mathlib.Core.Bool.{true};
-ghost use Prim.Native.Nat.{_*_, _≤_, _<_};
+ghost use Prim.Native.Nat.{_≤_};
 ghost use lib.ListN.{length};
-ghost use Rattle.whole.specs.Lists.{every};
 ghost use Rattle.refusal.specs.First.{firstOf};
-ghost use Rattle.refusal.specs.Parameters.{InRange};
-ghost use Rattle.scheme.specs.Arithmetic.{isResidue, XOR, NOT, tensor, AND, AND-bound};
-ghost use Rattle.scheme.specs.Calls.{xorRows, xorAnswer, xorResult, notRows, notAnswer, notResult, andRows, andAnswer, andResult, andScratch};
-ghost use Rattle.modular.specs.Loans.{Modulus};
+ghost use Rattle.scheme.specs.Arithmetic.{XOR, NOT, tensor, AND, AND-bound};
+ghost use Rattle.scheme.specs.Calls.{xorLoans, xorRows, XorPromise, notLoans, notRows, NotPromise, andLoans, andRows, AndPromise};
+ghost use Rattle.gates.specs.Ready.{XorIntoReady, NotIntoReady, AndIntoReady, AndBoundReady};
 use keys::tests::is_outside;
 use keys::tests::is_outside_big;
 use keys::tests::is_over;
@@ -24,7 +21,7 @@ use tensor::fill_tensor;
 
 // XOR: entry by entry [c+d]q.
 pub fn xor_into(q: u32, c: &[i64], d: &[i64], out: &mut [i64])
-    requires { ⌜ Modulus q × (length (now c) ≡ length (now out)) × (length (now d) ≡ length (now out)) × (every (isResidue q) (now c) ≡ true) × (every (isResidue q) (now d) ≡ true) ⌝ }
+    requires { ⌜ XorIntoReady q (now c) (now d) (now out) ⌝ }
     ensures { λ r. ⌜ now (out .exit) ≡ XOR q (now (c .entry)) (now (d .entry)) ⌝ }
 {
     let mut i = 0;
@@ -36,7 +33,7 @@ pub fn xor_into(q: u32, c: &[i64], d: &[i64], out: &mut [i64])
 
 // NOT: q/2 added to entry 0 and reduced.
 pub fn not_into(q: u32, c: &[i64], out: &mut [i64])
-    requires { ⌜ Modulus q × (length (now c) ≡ length (now out)) × (0 < length (now out)) × (every (isResidue q) (now c) ≡ true) ⌝ }
+    requires { ⌜ NotIntoReady q (now c) (now out) ⌝ }
     ensures { λ r. ⌜ now (out .exit) ≡ NOT q (now (c .entry)) ⌝ }
 {
     copy(c, out);
@@ -46,7 +43,7 @@ pub fn not_into(q: u32, c: &[i64], out: &mut [i64])
 
 // AND: tensor, then switch. The scratch is left with the tensor.
 pub fn and_into(q: u32, c: &[i64], d: &[i64], key: &[i64], scratch: &mut [i64], out: &mut [i64])
-    requires { ⌜ Modulus q × (length (now out) ≤ 1024) × (length (now c) ≡ length (now out)) × (length (now d) ≡ length (now out)) × (length (now scratch) ≡ length (now out) * length (now out)) × (length (now key) ≡ length (now out) * (length (now out) * length (now out))) × (every (isResidue q) (now c) ≡ true) × (every (isResidue q) (now d) ≡ true) × (every (isResidue (q * q)) (now key) ≡ true) ⌝ }
+    requires { ⌜ AndIntoReady q (now c) (now d) (now key) (now scratch) (now out) ⌝ }
     ensures { λ r. ⌜ now (out .exit) ≡ AND (length (now (out .entry))) q (now (key .entry)) (now (c .entry)) (now (d .entry)) ⌝ }
     ensures { λ r. ⌜ now (scratch .exit) ≡ tensor q (now (c .entry)) (now (d .entry)) ⌝ }
 {
@@ -56,7 +53,7 @@ pub fn and_into(q: u32, c: &[i64], d: &[i64], key: &[i64], scratch: &mut [i64], 
 
 // The bound of AND, with its two divisions rounded down by themselves. It can pass 32 bits before it is refused.
 pub fn and_bound(p: Params, b1: u32, b2: u32) -> u64
-    requires { ⌜ InRange p × (4 * b1 < p .q) × (4 * b2 < p .q) ⌝ }
+    requires { ⌜ AndBoundReady p b1 b2 ⌝ }
     ensures { λ r. ⌜ (r ≡ AND-bound (p .n) (p .q) (p .l) (p .f) b1 b2) × (r ≤ 1099511627776) ⌝ }
 {
     let n = p.n as u64;
@@ -69,15 +66,15 @@ pub fn and_bound(p: Params, b1: u32, b2: u32) -> u64
     product + (n * n * f + l) / 2
 }
 
-// The number for an XOR into a buffer of `result` entries: 1, 3, 6, 8, 10 or 0.
-fn xor_number(p: Params, c: &[i64], b1: u32, d: &[i64], b2: u32, result: usize) -> u32
-    ensures { λ r. ⌜ r ≡ firstOf (xorRows p (now (c .entry)) b1 (now (d .entry)) b2 result) ⌝ }
+// The number for an XOR into `out`: 1, 3, 6, 8, 10 or 0.
+fn xor_number(p: Params, c: &[i64], b1: u32, d: &[i64], b2: u32, out: &[i64]) -> u32
+    ensures { λ r. ⌜ r ≡ firstOf (xorRows (xorLoans p (now (c .entry)) b1 (now (d .entry)) b2 (now (out .entry)))) ⌝ }
 {
     if !p.in_range() {
         return 1;
     }
     let n = p.n as usize;
-    if length_differs(c.len(), n) | length_differs(d.len(), n) | length_differs(result, n) {
+    if length_differs(c.len(), n) | length_differs(d.len(), n) | length_differs(out.len(), n) {
         return 3;
     }
     let x = b1 as u64;
@@ -89,10 +86,9 @@ fn xor_number(p: Params, c: &[i64], b1: u32, d: &[i64], b2: u32, result: usize) 
 
 // XOR of two ciphertexts into `out`; answers the bound. Refusals 1, 3, 6, 8, 10.
 pub fn xor(p: Params, c: &[i64], b1: u32, d: &[i64], b2: u32, out: &mut [i64]) -> Bounded
-    ensures { λ r. ⌜ r ≡ xorAnswer p (now (c .entry)) b1 (now (d .entry)) b2 (length (now (out .entry))) ⌝ }
-    ensures { λ r. ⌜ now (out .exit) ≡ xorResult p (now (c .entry)) b1 (now (d .entry)) b2 (now (out .entry)) ⌝ }
+    ensures { λ r. ⌜ XorPromise (xorLoans p (now (c .entry)) b1 (now (d .entry)) b2 (now (out .entry))) r (now (out .exit)) ⌝ }
 {
-    let number = xor_number(p, c, b1, d, b2, out.len());
+    let number = xor_number(p, c, b1, d, b2, out);
     if number != 0 {
         return Bounded {
             number,
@@ -108,15 +104,15 @@ pub fn xor(p: Params, c: &[i64], b1: u32, d: &[i64], b2: u32, out: &mut [i64]) -
     }
 }
 
-// The number for a NOT into a buffer of `result` entries: 1, 3, 6, 8 or 0.
-fn not_number(p: Params, c: &[i64], bound: u32, result: usize) -> u32
-    ensures { λ r. ⌜ r ≡ firstOf (notRows p (now (c .entry)) bound result) ⌝ }
+// The number for a NOT into `out`: 1, 3, 6, 8 or 0.
+fn not_number(p: Params, c: &[i64], bound: u32, out: &[i64]) -> u32
+    ensures { λ r. ⌜ r ≡ firstOf (notRows (notLoans p (now (c .entry)) bound (now (out .entry)))) ⌝ }
 {
     if !p.in_range() {
         return 1;
     }
     let n = p.n as usize;
-    if length_differs(c.len(), n) | length_differs(result, n) {
+    if length_differs(c.len(), n) | length_differs(out.len(), n) {
         return 3;
     }
     let eight = refusal::row(8, is_over(p.q, bound as u64), 0);
@@ -125,10 +121,9 @@ fn not_number(p: Params, c: &[i64], bound: u32, result: usize) -> u32
 
 // NOT of a ciphertext into `out`; answers the bound. Refusals 1, 3, 6, 8.
 pub fn not(p: Params, c: &[i64], bound: u32, out: &mut [i64]) -> Bounded
-    ensures { λ r. ⌜ r ≡ notAnswer p (now (c .entry)) bound (length (now (out .entry))) ⌝ }
-    ensures { λ r. ⌜ now (out .exit) ≡ notResult p (now (c .entry)) bound (now (out .entry)) ⌝ }
+    ensures { λ r. ⌜ NotPromise (notLoans p (now (c .entry)) bound (now (out .entry))) r (now (out .exit)) ⌝ }
 {
-    let number = not_number(p, c, bound, out.len());
+    let number = not_number(p, c, bound, out);
     if number != 0 {
         return Bounded {
             number,
@@ -144,7 +139,7 @@ pub fn not(p: Params, c: &[i64], bound: u32, out: &mut [i64]) -> Bounded
     }
 }
 
-// The number for an AND into a buffer of `result` entries, by `scratch` entries of scratch: 1, 3, 6, 8, 10 or 0.
+// The number for an AND into `out`, by `scratch`: 1, 3, 6, 8, 10 or 0. The bound is worked out last, since it asks that rows 6 and 8 do not apply.
 fn and_number(
     p: Params,
     c: &[i64],
@@ -152,10 +147,10 @@ fn and_number(
     d: &[i64],
     b2: u32,
     key: &[i64],
-    scratch: usize,
-    result: usize,
+    scratch: &[i64],
+    out: &[i64],
 ) -> u32
-    ensures { λ r. ⌜ r ≡ firstOf (andRows p (now (c .entry)) b1 (now (d .entry)) b2 (now (key .entry)) scratch result) ⌝ }
+    ensures { λ r. ⌜ r ≡ firstOf (andRows (andLoans p (now (c .entry)) b1 (now (d .entry)) b2 (now (key .entry)) (now (scratch .entry)) (now (out .entry)))) ⌝ }
 {
     if !p.in_range() {
         return 1;
@@ -165,8 +160,8 @@ fn and_number(
     if length_differs(c.len(), n)
         | length_differs(d.len(), n)
         | length_differs(key.len(), n * square)
-        | length_differs(scratch, square)
-        | length_differs(result, n)
+        | length_differs(scratch.len(), square)
+        | length_differs(out.len(), n)
     {
         return 3;
     }
@@ -193,11 +188,9 @@ pub fn and(
     scratch: &mut [i64],
     out: &mut [i64],
 ) -> Bounded
-    ensures { λ r. ⌜ r ≡ andAnswer p (now (c .entry)) b1 (now (d .entry)) b2 (now (key .entry)) (length (now (scratch .entry))) (length (now (out .entry))) ⌝ }
-    ensures { λ r. ⌜ now (out .exit) ≡ andResult p (now (c .entry)) b1 (now (d .entry)) b2 (now (key .entry)) (now (scratch .entry)) (now (out .entry)) ⌝ }
-    ensures { λ r. ⌜ now (scratch .exit) ≡ andScratch p (now (c .entry)) b1 (now (d .entry)) b2 (now (key .entry)) (now (scratch .entry)) (now (out .entry)) ⌝ }
+    ensures { λ r. ⌜ AndPromise (andLoans p (now (c .entry)) b1 (now (d .entry)) b2 (now (key .entry)) (now (scratch .entry)) (now (out .entry))) r (now (out .exit)) (now (scratch .exit)) ⌝ }
 {
-    let number = and_number(p, c, b1, d, b2, key, scratch.len(), out.len());
+    let number = and_number(p, c, b1, d, b2, key, scratch, out);
     if number != 0 {
         return Bounded {
             number,

@@ -59,10 +59,10 @@ either e f = rw (e, f)
 
 -- ---- refused, and done
 
-abbrev withBound : ℕ → ℕ → ℕ → Bounded
+abbrev pub withBound : ℕ → ℕ → ℕ → Bounded
 withBound k at B = record { number = k; place = at; bound = B }
 
-abbrev withBit : ℕ → ℕ → ℕ → Decrypted
+abbrev pub withBit : ℕ → ℕ → ℕ → Decrypted
 withBit k at b = record { number = k; place = at; bit = b }
 
 -- the number n that was worked out is not 0: all is as found, and so it is by the definition

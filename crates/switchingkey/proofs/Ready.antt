@@ -1,4 +1,4 @@
--- What the makers of a switching key work by once their number is 0 (`MakeKeyReady`, `BenchReady`), and what they write: that row 0 is filled entry by
+-- What the makers of a switching key work by once their number is 0 (`make-key-ready`), and what they write: that row 0 is filled entry by
 -- entry (`entry-at`), that a key is row 0 and then the masks (`two-parts`), and its four rows of sixteen (`switching-rows`). Assumes nothing.
 use mathlib.Core.Path.{_≡_, refl, sym, ap, ap₂, _∙_}
 use mathlib.Core.List.{List, [], _∷_, _++_, append-nil}
@@ -12,16 +12,17 @@ use borrow.Rule.Slice.PartMut.{putMid}
 use Rattle.whole.specs.Tests.{or-left, or-right}
 use Rattle.whole.specs.Centred.{centred}
 use Rattle.whole.specs.Lists.{tabulate, length-tabulate, getD-tabulate, getD-each, each-getD, cut}
-use Rattle.whole.specs.Inner.{inner, sizes}
-use Rattle.refusal.specs.declared.Params.{Params}
-use Rattle.refusal.specs.First.{firstOf, rising, Clear, first-clear}
-use Rattle.refusal.specs.Parameters.{InRange, sheet, sheets, sheetTable}
+use Rattle.whole.specs.Inner.{inner}
+use Rattle.refusal.specs.First.{firstOf, Clear}
+use Rattle.refusal.specs.Order.{positionIn, order, position, inOrder, first-clear}
+use Rattle.refusal.specs.Parameters.{InRange}
 use Rattle.scheme.specs.Arithmetic.{maskColumn, rowZeroEntry, switchingKey}
-use Rattle.scheme.specs.Calls.{makeKeyRows, benchRows}
+use Rattle.scheme.specs.Calls.{MakeKeyLoans, makeKeyRows}
 use Rattle.scheme.specs.Passed.{params-in-range, length-is, key-within, entries-inside, errors-within}
 use Rattle.modular.specs.Loans.{Modulus, UpTo, square}
 use Rattle.modular.specs.Residues.{residues-upto}
 use Rattle.keys.specs.Chain.{params-modulus}
+use Rattle.switchingkey.specs.Ready.{FillReady, MakeKeyReady}
 
 -- ---- what success tells
 
@@ -35,60 +36,35 @@ one-more n m h =
 upto-more : {m M : ℕ} {xs : List ℤ} → m ≤ M → UpTo m xs → UpTo M xs
 upto-more h e = getD-each (pos 0) (λ i l. le-trans (each-getD e i (pos 0) l) h)
 
-pub record MakeKeyReady (p : Params) (s masks f : List ℤ) (result : ℕ) : Type 0 where
-  pub modulus : Modulus (p .q)
-  pub count : length s ≡ p .n
-  pub low : 2 ≤ length s
-  pub high : length s ≤ 1024
-  pub key : sizes s ≤ 4096
-  pub masks-long : length masks ≡ (length s - 1) * (length s * length s)
-  pub masks-small : UpTo 549755813888 masks
-  pub errors-long : length f ≡ length s * length s
-  pub errors-small : UpTo 65535 f
-  pub result-long : result ≡ length f + length masks
-
-pub make-key-ready : (p : Params) (s masks f : List ℤ) (result : ℕ) → firstOf (makeKeyRows p s masks f result) ≡ 0 → MakeKeyReady p s masks f result
-unfolding makeKeyRows rising
-make-key-ready p s masks f result e =
-    let clear : Clear (makeKeyRows p s masks f result) = first-clear (makeKeyRows p s masks f result) 0 refl e in
-    let r : InRange p = params-in-range p (clear .0) in
-    let n : length s ≡ p .n = length-is _ _ (search (or-left, or-right) depth 8) in
-    let masks-are : length masks ≡ (p .n - 1) * (p .n * p .n) = length-is _ _ (search (or-left, or-right) depth 8) in
-    let errors-are : length f ≡ p .n * p .n = length-is _ _ (search (or-left, or-right) depth 8) in
-    let m : Modulus (p .q) = params-modulus r in
+pub make-key-ready : (a : MakeKeyLoans) → firstOf (makeKeyRows a) ≡ 0 → MakeKeyReady a
+unfolding positionIn order position inOrder makeKeyRows
+make-key-ready a e =
+    let t : Clear (makeKeyRows a) = first-clear (makeKeyRows a) refl e in
+    let r : InRange (a .p) = params-in-range (a .p) (t .0 .0) in
+    let n = a .p .n in
+    let key : length (a .key) ≡ a .p .n = length-is (length (a .key)) n (search (or-left, or-right, t .1 .0 .0) depth 8) in
+    let masks : length (a .masks) ≡ (a .p .n - 1) * (a .p .n * a .p .n) = length-is (length (a .masks)) ((n - 1) * (n * n)) (search (or-left, or-right, t .1 .0 .0) depth 8) in
+    let errors : length (a .errors) ≡ a .p .n * a .p .n = length-is (length (a .errors)) (n * n) (search (or-left, or-right, t .1 .0 .0) depth 8) in
+    let room : length (a .result) ≡ a .p .n * (a .p .n * a .p .n) = length-is (length (a .result)) (n * (n * n)) (search (or-left, or-right, t .1 .0 .0) depth 8) in
+    let m : Modulus (a .p .q) = params-modulus r in
     record {
-      modulus = m;
-      count = n;
-      low = omega (arith, r .n-low);
-      high = omega (arith, r .n-high);
-      key = omega (arith, r .l-high, key-within (p .l) s (clear .1 .1 .0));
-      masks-long = rw n masks-are;
-      masks-small = residues-upto (p .q * p .q) 549755813888 masks (square m .high) (entries-inside (p .q * p .q) masks (clear .1 .1 .1 .0));
-      errors-long = rw n errors-are;
-      errors-small = upto-more (r .f-high) (errors-within (p .f) f (clear .1 .1 .1 .1 .0));
-      result-long = length-is result (p .n * (p .n * p .n)) (search (or-left, or-right) depth 8) ∙ one-more (p .n) (p .n * p .n) (omega (arith, r .n-low)) ∙ sym (ap₂ _+_ errors-are masks-are);
+      count = key;
+      row = record {
+        modulus = m;
+        low = omega (arith, r .n-low);
+        high = omega (arith, r .n-high);
+        key-small = omega (arith, r .l-high, key-within (a .p .l) (a .key) (t .1 .1 .0 .0));
+        masks-long = rw key masks;
+        masks-small = residues-upto (a .p .q * a .p .q) 549755813888 (a .masks) (square m .high) (entries-inside (a .p .q * a .p .q) (a .masks) (t .1 .1 .1 .0 .0));
+      };
+      errors-long = rw key errors;
+      errors-small = upto-more (r .f-high) (errors-within (a .p .f) (a .errors) (t .1 .1 .1 .1 .0 .0));
+      room = room ∙ one-more n (n * n) (omega (arith, r .n-low)) ∙ sym (ap₂ _+_ errors masks);
     }
 
-pub record BenchReady (s masks f : List ℤ) : Type 0 where
-  pub count : length s ≡ 4
-  pub key : sizes s ≤ 4
-  pub masks-long : length masks ≡ 48
-  pub masks-small : UpTo 549755813888 masks
-  pub errors-long : length f ≡ 16
-  pub errors-small : UpTo 65535 f
-
-pub bench-ready : (s masks f : List ℤ) → firstOf (benchRows s masks f) ≡ 0 → BenchReady s masks f
-unfolding benchRows rising sheet sheets sheetTable
-bench-ready s masks f e =
-    let clear : Clear (benchRows s masks f) = first-clear (benchRows s masks f) 0 refl e in
-    record {
-      count = length-is (length s) 4 (search (or-left, or-right) depth 8);
-      key = key-within 4 s (clear .1 .0);
-      masks-long = length-is (length masks) 48 (search (or-left, or-right) depth 8);
-      masks-small = residues-upto 4294967296 549755813888 masks (omega arith) (entries-inside 4294967296 masks (clear .1 .1 .0));
-      errors-long = length-is (length f) 16 (search (or-left, or-right) depth 8);
-      errors-small = upto-more (omega arith) (errors-within 1 f (clear .1 .1 .1 .0));
-    }
+-- row 0 may then be filled
+pub fill-ready : {a : MakeKeyLoans} → MakeKeyReady a → (out : List ℤ) → length out ≡ length (a .errors) → FillReady (a .p .q) (a .key) (a .masks) (a .errors) out
+fill-ready r out e = record { row = r .row; errors-long = r .errors-long; errors-small = r .errors-small; room = e ∙ r .errors-long }
 
 -- ---- what is written
 

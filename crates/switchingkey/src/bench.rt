@@ -1,13 +1,11 @@
 ghost use mathlib.Core.Path.{_≡_};
-ghost use mathlib.Core.Bool.{true};
 ghost use Prim.Native.Nat.{_+_, _≤_};
 ghost use lib.ListN.{length, take, drop};
-ghost use Rattle.whole.specs.Inner.{sizes};
 ghost use Rattle.whole.specs.Lists.{tabulate};
 ghost use Rattle.refusal.specs.First.{firstOf};
 ghost use Rattle.scheme.specs.Arithmetic.{rowZeroEntry};
-ghost use Rattle.scheme.specs.Calls.{benchRows, benchCheckAnswer, benchKey};
-ghost use Rattle.modular.specs.Loans.{UpTo};
+ghost use Rattle.scheme.specs.Calls.{makeKeyRows, benchLoans, BenchCheckPromise, BenchKeyPromise};
+ghost use Rattle.switchingkey.specs.Ready.{MakeKeyReady};
 use crate::fill_row_zero;
 use keys::tests::is_bad_key;
 use keys::tests::is_exceeding;
@@ -16,9 +14,9 @@ use keys::tests::length_differs;
 use modular::buffer::copy;
 use refusal::Refusal;
 
-// The number for a bench key: 3, 4, 6, 7 or 0. The parameters are those of sheet 1.
+// The number for a bench key: 3, 4, 6, 7 or 0. The parameters are those of sheet 1, which are in range, and the key's room is its own.
 fn bench_number(s: &[i32], masks: &[i64], errors: &[i64]) -> u32
-    ensures { λ r. ⌜ r ≡ firstOf (benchRows (now (s .entry)) (now (masks .entry)) (now (errors .entry))) ⌝ }
+    ensures { λ r. ⌜ r ≡ firstOf (makeKeyRows (benchLoans (now (s .entry)) (now (masks .entry)) (now (errors .entry)))) ⌝ }
 {
     if length_differs(s.len(), 4)
         | length_differs(masks.len(), 48)
@@ -33,7 +31,7 @@ fn bench_number(s: &[i32], masks: &[i64], errors: &[i64]) -> u32
 
 // The number that the bench key maker meets on the same loans: 0 when the key is made. Refusals 3, 4, 6, 7.
 pub fn check_bench_key(s: &[i32], masks: &[i64], errors: &[i64]) -> Refusal
-    ensures { λ r. ⌜ r ≡ benchCheckAnswer (now (s .entry)) (now (masks .entry)) (now (errors .entry)) ⌝ }
+    ensures { λ r. ⌜ BenchCheckPromise (now (s .entry)) (now (masks .entry)) (now (errors .entry)) r ⌝ }
 {
     Refusal {
         number: bench_number(s, masks, errors),
@@ -43,7 +41,7 @@ pub fn check_bench_key(s: &[i32], masks: &[i64], errors: &[i64]) -> Refusal
 
 // Row 0 of the bench key.
 fn bench_row_zero(s: &[i32], masks: &[i64], errors: &[i64]) -> [i64; 16]
-    requires { ⌜ (length (now s) ≡ 4) × (sizes (now s) ≤ 4) × (length (now masks) ≡ 48) × UpTo 549755813888 (now masks) × (length (now errors) ≡ 16) × UpTo 65535 (now errors) ⌝ }
+    requires { ⌜ MakeKeyReady (benchLoans (now s) (now masks) (now errors)) ⌝ }
     ensures { λ r. ⌜ r ≡ tabulate 16 (rowZeroEntry 4 65536 (now (s .entry)) (now (masks .entry)) (now (errors .entry))) ⌝ }
 {
     let mut row = [0i64; 16];
@@ -64,7 +62,7 @@ fn bench_mask_row(masks: &[i64], from: usize) -> [i64; 16]
 
 // The bench key: the switching key of sheet 1 as four rows of sixteen, by value; all zeros on a refusal.
 pub fn make_bench_key(s: &[i32], masks: &[i64], errors: &[i64]) -> [[i64; 16]; 4]
-    ensures { λ r. ⌜ r ≡ benchKey (now (s .entry)) (now (masks .entry)) (now (errors .entry)) ⌝ }
+    ensures { λ r. ⌜ BenchKeyPromise (now (s .entry)) (now (masks .entry)) (now (errors .entry)) r ⌝ }
 {
     if bench_number(s, masks, errors) != 0 {
         return [[0i64; 16]; 4];

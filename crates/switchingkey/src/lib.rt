@@ -3,18 +3,16 @@
 pub mod bench;
 
 ghost use mathlib.Core.Path.{_≡_};
-ghost use mathlib.Core.Bool.{true};
-ghost use mathlib.Core.List.{List};
-ghost use Prim.Native.Nat.{_*_, _-_, _/_, _%_, _≤_, _<_};
-ghost use lib.IntN.{pos, _+ℤ_, _-ℤ_, _*ℤ_, natAbs};
+ghost use Prim.Native.Nat.{_*_, _/_, _%_};
+ghost use lib.IntN.{pos, _+ℤ_, _-ℤ_, _*ℤ_};
 ghost use lib.ListN.{length, getD, drop};
 ghost use Rattle.whole.specs.Centred.{centred};
-ghost use Rattle.whole.specs.Inner.{inner, sizes};
-ghost use Rattle.whole.specs.Lists.{every, tabulate};
+ghost use Rattle.whole.specs.Inner.{inner};
+ghost use Rattle.whole.specs.Lists.{tabulate};
 ghost use Rattle.refusal.specs.First.{firstOf};
-ghost use Rattle.scheme.specs.Arithmetic.{isResidue, maskColumn, rowZeroEntry, switchingKey};
-ghost use Rattle.scheme.specs.Calls.{makeKeyRows, makeKeyAnswer, makeKeyResult};
-ghost use Rattle.modular.specs.Loans.{Modulus, UpTo};
+ghost use Rattle.scheme.specs.Arithmetic.{maskColumn, rowZeroEntry};
+ghost use Rattle.scheme.specs.Calls.{makeKeyLoans, makeKeyRows, MakeKeyPromise};
+ghost use Rattle.switchingkey.specs.Ready.{EntryReady, FillReady};
 use keys::tests::is_bad_key;
 use keys::tests::is_exceeding;
 use keys::tests::is_outside_big;
@@ -27,7 +25,7 @@ use refusal::Refusal;
 
 // Row 0, column j of a switching key: [q·su·sv - <s',mask column j> + fj]Q for j = u·n+v.
 fn row_zero_entry(q: u32, s: &[i32], masks: &[i64], error: i64, j: usize) -> BigResidue
-    requires { ⌜ Modulus q × (2 ≤ length (now s)) × (length (now s) ≤ 1024) × (sizes (now s) ≤ 4096) × (length (now masks) ≡ (length (now s) - 1) * (length (now s) * length (now s))) × UpTo 549755813888 (now masks) × (natAbs error ≤ 65535) × (j < length (now s) * length (now s)) ⌝ }
+    requires { ⌜ EntryReady q (now s) (now masks) error j ⌝ }
     ensures { λ r. ⌜ r .0 ≡ centred (q * q) (pos q *ℤ getD (now (s .entry)) (j / length (now (s .entry))) (pos 0) *ℤ getD (now (s .entry)) (j % length (now (s .entry))) (pos 0) -ℤ inner (drop 1 (now (s .entry))) (maskColumn (length (now (s .entry))) (now (masks .entry)) j) +ℤ error) ⌝ }
 {
     let n = s.len();
@@ -36,8 +34,8 @@ fn row_zero_entry(q: u32, s: &[i32], masks: &[i64], error: i64, j: usize) -> Big
 }
 
 // Row 0 of a switching key.
-pub fn fill_row_zero(q: u32, s: &[i32], masks: &[i64], errors: &[i64], out: &mut [i64])
-    requires { ⌜ Modulus q × (2 ≤ length (now s)) × (length (now s) ≤ 1024) × (sizes (now s) ≤ 4096) × (length (now masks) ≡ (length (now s) - 1) * (length (now s) * length (now s))) × UpTo 549755813888 (now masks) × UpTo 65535 (now errors) × (length (now errors) ≡ length (now s) * length (now s)) × (length (now out) ≡ length (now s) * length (now s)) ⌝ }
+fn fill_row_zero(q: u32, s: &[i32], masks: &[i64], errors: &[i64], out: &mut [i64])
+    requires { ⌜ FillReady q (now s) (now masks) (now errors) (now out) ⌝ }
     ensures { λ r. ⌜ now (out .exit) ≡ tabulate (length (now (s .entry)) * length (now (s .entry))) (rowZeroEntry (length (now (s .entry))) q (now (s .entry)) (now (masks .entry)) (now (errors .entry))) ⌝ }
 {
     let mut j = 0;
@@ -47,9 +45,9 @@ pub fn fill_row_zero(q: u32, s: &[i32], masks: &[i64], errors: &[i64], out: &mut
     }
 }
 
-// The number for a switching key into a buffer of `result` entries: 1, 3, 4, 6, 7 or 0.
-fn make_key_number(p: Params, s: &[i32], masks: &[i64], errors: &[i64], result: usize) -> u32
-    ensures { λ r. ⌜ r ≡ firstOf (makeKeyRows p (now (s .entry)) (now (masks .entry)) (now (errors .entry)) result) ⌝ }
+// The number for a switching key into `out`: 1, 3, 4, 6, 7 or 0.
+fn make_key_number(p: Params, s: &[i32], masks: &[i64], errors: &[i64], out: &[i64]) -> u32
+    ensures { λ r. ⌜ r ≡ firstOf (makeKeyRows (makeKeyLoans p (now (s .entry)) (now (masks .entry)) (now (errors .entry)) (now (out .entry)))) ⌝ }
 {
     if !p.in_range() {
         return 1;
@@ -59,7 +57,7 @@ fn make_key_number(p: Params, s: &[i32], masks: &[i64], errors: &[i64], result: 
     if length_differs(s.len(), n)
         | length_differs(masks.len(), (n - 1) * square)
         | length_differs(errors.len(), square)
-        | length_differs(result, n * square)
+        | length_differs(out.len(), n * square)
     {
         return 3;
     }
@@ -76,10 +74,9 @@ pub fn make_switching_key(
     errors: &[i64],
     out: &mut [i64],
 ) -> Refusal
-    ensures { λ r. ⌜ r ≡ makeKeyAnswer p (now (s .entry)) (now (masks .entry)) (now (errors .entry)) (length (now (out .entry))) ⌝ }
-    ensures { λ r. ⌜ now (out .exit) ≡ makeKeyResult p (now (s .entry)) (now (masks .entry)) (now (errors .entry)) (now (out .entry)) ⌝ }
+    ensures { λ r. ⌜ MakeKeyPromise (makeKeyLoans p (now (s .entry)) (now (masks .entry)) (now (errors .entry)) (now (out .entry))) r (now (out .exit)) ⌝ }
 {
-    let number = make_key_number(p, s, masks, errors, out.len());
+    let number = make_key_number(p, s, masks, errors, out);
     if number != 0 {
         return Refusal { number, place: 0 };
     }

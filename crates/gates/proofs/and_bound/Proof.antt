@@ -49,7 +49,7 @@ sizes {p} {x} {y} r h g =
     }
 
 known : (c : tie.After-struct-known4) → Sizes (c .before .before .before .before .args .p) (c .before .before .before .before .args .b1) (c .before .before .before .before .args .b2)
-known c = let s = c .before .before .before .before in sizes (s .pre .0) (s .pre .1) (s .pre .2)
+known c = let s = c .before .before .before .before in sizes (s .pre .range) (s .pre .left-fits) (s .pre .right-fits)
 
 mul-product-2 : tie.Need-mul-product-2
 mul-product-2 c = omega (arith, known c .twice)

@@ -12,23 +12,23 @@ use Rattle.gates.proofs.and_into.Tie as tie
 fill-tensor-requires : tie.Need-fill-tensor-requires
 fill-tensor-requires c κs =
     let r = c .before .pre in
-    (r .0, (search), (search), rw (r .2, r .3) (r .4), omega arith, omega arith)
+    (r .modulus, r .left-inside, r .right-inside, rw (r .left-long, r .right-long) (r .scratch-long), omega (arith, r), omega (arith, r))
 
 -- the tensor fills the scratch
 long : (t : tie.After-fill-tensor) → length (t .fill-tensor .last .1 .1 .1 .0) ≡ length (t .before .before .args .scratch .now)
-long t = let r = t .before .before .pre in rw (t .fill-tensor .ensures, length-tensor, r .2, r .3) (sym (r .4))
+long t = let r = t .before .before .pre in rw (t .fill-tensor .ensures, length-tensor, r .left-long, r .right-long) (sym (r .scratch-long))
 
 fill-switch-requires : tie.Need-fill-switch-requires
 fill-switch-requires c κs =
     let t = c .before .before .before in
     let s = t .before .before in
     let r = s .pre in (
-      r .0,
-      r .1,
-      long t ∙ r .4,
-      rw (long t, r .4) (r .5),
-      rw (t .fill-tensor .ensures) (tensor-residues _ _ _ (r .0 .positive) (r .0 .even)),
-      r .8,
+      r .modulus,
+      r .high,
+      long t ∙ r .scratch-long,
+      rw (long t, r .scratch-long) (r .key-long),
+      rw (t .fill-tensor .ensures) (tensor-residues _ _ _ (r .modulus .positive) (r .modulus .even)),
+      r .key-inside,
     )
 
 returns : tie.Need-returns

@@ -1,36 +1,32 @@
--- `gates::not` answers and writes as NOT is defined: where the number is not 0 nothing, and where it is 0 (`NotReady`) what `not_into` writes.
+-- `gates::not` answers and writes as NOT is defined: where the number is not 0 nothing, and where it is 0 (`not-ready`) what `not_into` writes.
 use mathlib.Core.Path.{_≡_, refl, sym, _∙_}
-use native.Mathlib.Omega.{arith}
-use lib.ListN.{length}
+use borrow.Author.Needs.{needs}
 use Rattle.refusal.specs.First.{firstOf}
 use Rattle.scheme.specs.Arithmetic.{NOT-bound}
-use Rattle.scheme.specs.Calls.{notRows, notAnswer, notResult}
-use Rattle.keys.specs.Chain.{params-modulus, refused-kept, done-written, bounded-refused, bounded-done}
+use Rattle.scheme.specs.Calls.{NotLoans, notLoans, notRows}
 use Rattle.gates.proofs.Ready.{not-ready}
-use borrow.Author.Needs.{needs}
+use Rattle.gates.proofs.Ends.{not-refused, not-done}
 use Rattle.gates.proofs.not.Statement.{statement}
 use Rattle.gates.proofs.not.Tie as tie
 
+abbrev loans : tie.After-not-number → NotLoans
+loans c = let s = c .before .before .args in notLoans (s .p) (s .c .now) (s .bound) (s .out .now)
+
 returns : tie.Need-returns
-unfolding notAnswer notResult
-returns c =
-    let e = c .before .not-number .ensures in
-    (bounded-refused _ e (c .if1 .taken), refused-kept _ _ e (c .if1 .taken))
+returns c = not-refused (loans (c .before)) (c .before .not-number .ensures) (c .if1 .taken)
 
 -- past the refusals
-zero : (c : tie.Else1) → (let s = c .before .before .args in firstOf (notRows (s .p) (s .c .now) (s .bound) (length (s .out .now)))) ≡ 0
+zero : (c : tie.Else1) → firstOf (notRows (loans (c .before))) ≡ 0
 zero c = sym (c .before .not-number .ensures) ∙ c .if1 .left
 
 not-into-requires : tie.Need-not-into-requires
-not-into-requires c κs =
-    let r = not-ready _ _ _ _ (zero (c .before)) in
-    (params-modulus (r .range), r .long ∙ sym (r .room), omega (arith, r .room, r .range .n-low), r .inside)
+not-into-requires c κs = not-ready (loans (c .before .before)) (zero (c .before))
 
 returns-2 : tie.Need-returns-2
-unfolding notAnswer notResult NOT-bound
-returns-2 c =
-    let z = zero (c .before .before .before) in
-    (bounded-done _ z refl, done-written _ _ z (c .before .not-into .ensures))
+unfolding NOT-bound
+returns-2 c = let e = c .before .before .before in not-done (loans (e .before)) (zero e) refl (c .before .not-into .ensures)
 
 pub not-spec : {M : Type 1} → statement M
-not-spec = tie.close (tie.spec (λ c κs. search needs) returns not-into-requires (λ c. search needs) returns-2)
+not-spec =
+    tie.close
+    (tie.spec (λ c κs. search needs) (λ c. search needs) returns not-into-requires (λ c. search needs) returns-2)

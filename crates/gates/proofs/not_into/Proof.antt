@@ -38,22 +38,22 @@ share q k h = le-div-iff-mul-le {k = 2} {x = q / k} {y = q} (omega arith) .1 (om
 
 -- entry 0 of c is a residue
 first-size : (c : tie.Start) → natAbs (getD (c .args .c .now) 0 (pos 0)) ≤ c .args .q / 2
-first-size c = residue-size _ _ (every-getD (isResidue (c .args .q)) (c .args .c .now) 0 (pos 0) (c .pre .3) (omega arith))
+first-size c = residue-size _ _ (every-getD (isResidue (c .args .q)) (c .args .c .now) 0 (pos 0) (c .pre .inside) (omega arith))
 
 div-half : tie.Need-div-half
 div-half c =
-    let m = c .before .before .before .pre .0 in
+    let m = c .before .before .before .pre .modulus in
     (omega arith, rw (modulus-is m) (fits64 _ (omega (arith, m .high))))
 
 add-near : tie.Need-add-near
 add-near c =
     let s = c .before .before .before .before in
-    rw (modulus-is (s .pre .0)) (search (sum-fits, s .pre .0, first-size s, share, lit≤))
+    rw (modulus-is (s .pre .modulus)) (search (sum-fits, s .pre .modulus, first-size s, share, lit≤))
 
 near-requires : tie.Need-near-requires
 near-requires c κs =
     let s = c .before .before .before .before in
-    (s .pre .0, rw (modulus-is (s .pre .0)) (search (sum-near, s .pre .0, first-size s, share, lit≤)))
+    (s .pre .modulus, rw (modulus-is (s .pre .modulus)) (search (sum-near, s .pre .modulus, first-size s, share, lit≤)))
 
 returns : tie.Need-returns
 returns c =
@@ -65,8 +65,8 @@ returns c =
     ap (set (k .last .1 .0) 0)
     (toZ-ofZ (sfits-of (c .value .ok))
     ∙ c .value .ensures
-    ∙ (rw (modulus-is (s .pre .0)) at (c .before .near .ensures))
-    ∙ ap (centred q) (sum-is (getD d 0 (pos 0)) (half q) (s .pre .0) (first-size s) (omega arith)))
+    ∙ (rw (modulus-is (s .pre .modulus)) at (c .before .near .ensures))
+    ∙ ap (centred q) (sum-is (getD d 0 (pos 0)) (half q) (s .pre .modulus) (first-size s) (omega arith)))
     ∙ rw (k .ensures) (not-set q d (omega arith))
 
 pub not-into-spec : {M : Type 1} → statement M

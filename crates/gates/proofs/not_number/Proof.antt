@@ -1,50 +1,49 @@
 -- `gates::not_number` gives the number of the first row of NOT that applies: each return by what the tests and `row` ensure.
-use mathlib.Core.Path.{sym}
-use Rattle.refusal.specs.First.{firstOf}
-use Rattle.scheme.specs.Calls.{badParams, notRows}
-use Rattle.keys.specs.Chain.{params-modulus, answered-range}
+use mathlib.Core.Path.{_≡_, ap}
+use mathlib.Core.Bool.{not}
 use borrow.Author.Needs.{needs}
+use Rattle.scheme.specs.Calls.{badParams, NotLoans, notLoans, notRows}
+use Rattle.keys.specs.Chain.{params-modulus, answered-range, given, stops, passes, asks, none, either}
 use Rattle.gates.proofs.not_number.Statement.{statement}
 use Rattle.gates.proofs.not_number.Tie as tie
 
+abbrev loans : tie.Start → NotLoans
+loans s = notLoans (s .args .p) (s .args .c .now) (s .args .bound) (s .args .out .now)
+
+-- past row 1, and past row 3
+abbrev ranged : tie.Else2 → tie.Else1
+ranged c = c .before .before .before .before
+
 returns : tie.Need-returns
-unfolding firstOf notRows badParams
-returns c = simp (sym (c .before .in-range .ensures), c .if1 .taken)
+unfolding notRows badParams
+returns c = given (notRows (loans (c .before .before))) (stops (ap not (c .before .in-range .ensures)) (c .if1 .taken))
 
 returns-2 : tie.Need-returns-2
-unfolding firstOf notRows badParams
+unfolding notRows badParams
 returns-2 c =
     let d = c .before in
-    simp (
-      sym (d .before .before .before .before .in-range .ensures),
-      d .before .before .before .if1 .left,
-      sym (d .before .length-differs .ensures),
-      sym (d .length-differs2 .ensures),
-      c .if2 .taken,
-    )
+    let a = d .before .before .before in
+    given (notRows (loans (a .before .before)))
+    (passes (ap not (a .before .in-range .ensures)) (a .if1 .left)
+    (stops (either (d .before .length-differs .ensures) (d .length-differs2 .ensures)) (c .if2 .taken)))
 
 is-outside-requires : tie.Need-is-outside-requires
 is-outside-requires c κs =
-    let a = c .before .before .before .before .before .before in
+    let a = ranged (c .before .before) in
     params-modulus (answered-range _ (a .before .in-range .ensures) (a .if1 .left))
 
 returns-3 : tie.Need-returns-3
-unfolding firstOf notRows badParams
+unfolding notRows badParams
 returns-3 c =
     let o = c .before in
     let e = o .before .before .before in
     let d = e .before in
-    simp (
-      c .row2 .ensures,
-      o .is-outside .ensures,
-      o .before .row .ensures,
-      o .before .before .is-over .ensures,
-      sym (d .before .before .before .before .in-range .ensures),
-      d .before .before .before .if1 .left,
-      sym (d .before .length-differs .ensures),
-      sym (d .length-differs2 .ensures),
-      e .if2 .left,
-    )
+    let a = ranged e in
+    given (notRows (loans (a .before .before)))
+    (passes (ap not (a .before .in-range .ensures)) (a .if1 .left)
+    (passes (either (d .before .length-differs .ensures) (d .length-differs2 .ensures)) (e .if2 .left)
+    (asks (c .row2 .ensures) (o .is-outside .ensures)
+    (asks (o .before .row .ensures) (o .before .before .is-over .ensures) none))))
 
 pub not-number-spec : {M : Type 1} → statement M
 not-number-spec =

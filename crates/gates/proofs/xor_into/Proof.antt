@@ -38,23 +38,23 @@ abbrev μ-loop : tie.MeasureT-loop
 -- the entries of a turn
 module _ (c : tie.In-loop Inv-loop μ-loop) where
   left : natAbs (getD (c .before .before .args .c .now) (c .before .loop .i) (pos 0)) ≤ c .before .before .args .q / 2
-  left = entry-size _ _ _ (c .before .before .pre .3) (omega arith)
+  left = entry-size _ _ _ (c .before .before .pre .left-inside) (omega arith)
 
   right : natAbs (getD (c .before .before .args .d .now) (c .before .loop .i) (pos 0)) ≤ c .before .before .args .q / 2
-  right = entry-size _ _ _ (c .before .before .pre .4) (omega arith)
+  right = entry-size _ _ _ (c .before .before .pre .right-inside) (omega arith)
 
 loop-holds : tie.Need-loop-holds Inv-loop μ-loop
-loop-holds c = fill-start _ _ (length-xor _ _ _ (c .pre .1 ∙ sym (c .pre .2)) ∙ c .pre .1)
+loop-holds c = fill-start _ _ (length-xor _ _ _ (c .pre .left-long ∙ sym (c .pre .right-long)) ∙ c .pre .left-long)
 
 add-near : tie.Need-add-near Inv-loop μ-loop
 add-near c =
     let t = c .before .before in
-    search (sum-fits, t .before .before .pre .0, left t, right t)
+    search (sum-fits, t .before .before .pre .modulus, left t, right t)
 
 near-requires : tie.Need-near-requires Inv-loop μ-loop
 near-requires c κs =
     let t = c .before .before in
-    (t .before .before .pre .0, search (sum-near, t .before .before .pre .0, left t, right t))
+    (t .before .before .pre .modulus, search (sum-near, t .before .before .pre .modulus, left t, right t))
 
 loop-again : tie.Need-loop-again Inv-loop μ-loop
 loop-again c =
@@ -65,7 +65,7 @@ loop-again c =
     (toZ-ofZ (sfits-of (c .value .ok))
     ∙ c .value .ensures
     ∙ c .before .near .ensures
-    ∙ ap (centred (s .q)) (sum-is (getD (s .c .now) (l .loop .i) (pos 0)) (getD (s .d .now) (l .loop .i) (pos 0)) (l .before .pre .0) (left t) (right t))
+    ∙ ap (centred (s .q)) (sum-is (getD (s .c .now) (l .loop .i) (pos 0)) (getD (s .d .now) (l .loop .i) (pos 0)) (l .before .pre .modulus) (left t) (right t))
     ∙ sym (getD-xor (s .q) (s .c .now) (s .d .now) (l .loop .i) (omega arith) (omega arith)))
 
 same-length : tie.Need-same-length Inv-loop μ-loop

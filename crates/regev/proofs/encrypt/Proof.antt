@@ -4,10 +4,9 @@ use mathlib.Core.Path.{_≡_, refl, sym, _∙_}
 use mir.Facts.{toZ-ofZ}
 use borrow.Author.Needs.{needs}
 use Rattle.refusal.specs.First.{firstOf}
-use Rattle.scheme.specs.Calls.{EncryptLoans, encryptLoans, encryptRows, encryptAnswer, encryptResult}
-use Rattle.scheme.specs.Foremost.{encrypt-place}
-use Rattle.keys.specs.Chain.{refused-kept, done-written, bounded-refused, bounded-done}
+use Rattle.scheme.specs.Calls.{EncryptLoans, encryptLoans, encryptRows}
 use Rattle.regev.proofs.Ready.{encrypt-ready}
+use Rattle.regev.proofs.Ends.{encrypt-refused, encrypt-done}
 use Rattle.regev.proofs.encrypt.Statement.{statement}
 use Rattle.regev.proofs.encrypt.Tie as tie
 
@@ -21,33 +20,21 @@ number : (c : tie.After-encrypt-number) → c .encrypt-number .result ≡ firstO
 number c = simp (toZ-ofZ (start c .fits .error)) at (c .encrypt-number .ensures)
 
 returns : tie.Need-returns
-unfolding encryptAnswer encryptResult
-returns c =
-    let a = loans (c .before) in
-    let e = number (c .before) in
-    record {
-      answer = bounded-refused (encryptRows a) (encrypt-place a) _ e (c .if1 .taken);
-      result-left = refused-kept _ _ e (c .if1 .taken);
-    }
+returns c = encrypt-refused (loans (c .before)) (number (c .before)) (c .if1 .taken)
 
 -- past the refusals
-done : (c : tie.Else1) → firstOf (encryptRows (loans (c .before))) ≡ 0
-done c = sym (number (c .before)) ∙ c .if1 .left
+zero : (c : tie.Else1) → firstOf (encryptRows (loans (c .before))) ≡ 0
+zero c = sym (number (c .before)) ∙ c .if1 .left
 
 encrypt-into-requires : tie.Need-encrypt-into-requires
 encrypt-into-requires c κs =
     let e = c .before in
-    rw (toZ-ofZ (start (e .before) .fits .error)) (encrypt-ready (loans (e .before)) (done e))
+    rw (toZ-ofZ (start (e .before) .fits .error)) (encrypt-ready (loans (e .before)) (zero e))
 
 returns-2 : tie.Need-returns-2
-unfolding encryptAnswer encryptResult
 returns-2 c =
     let e = c .before .before .before in
-    let a = loans (e .before) in
-    record {
-      answer = bounded-done (encryptRows a) (encrypt-place a) _ (done e) refl;
-      result-left = done-written _ _ (done e) (simp (toZ-ofZ (start (e .before) .fits .error)) at (c .before .encrypt-into .ensures));
-    }
+    encrypt-done (loans (e .before)) (zero e) refl (simp (toZ-ofZ (start (e .before) .fits .error)) at (c .before .encrypt-into .ensures))
 
 pub encrypt-spec : {M : Type 1} → statement M
 encrypt-spec =

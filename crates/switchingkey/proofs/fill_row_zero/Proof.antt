@@ -22,7 +22,7 @@ abbrev μ-loop : tie.MeasureT-loop
 μ-loop q s masks errors out₀ j₀ out j = length out₀ - j
 
 loop-holds : tie.Need-loop-holds Inv-loop μ-loop
-loop-holds c = fill-start _ _ (length-tabulate _ _ ∙ sym (c .pre .8))
+loop-holds c = fill-start _ _ (length-tabulate _ _ ∙ sym (c .pre .room))
 
 -- the error of the turn, as it is read
 error-is : (c : tie.After-row-zero-entry-arg Inv-loop μ-loop)
@@ -33,7 +33,11 @@ row-zero-entry-requires : tie.Need-row-zero-entry-requires Inv-loop μ-loop
 row-zero-entry-requires c κs =
     let p = c .before .before .before .pre in
     let inside : c .before .before .loop .j < length (c .before .before .before .args .errors .now) = omega arith in
-    (p .0, p .1, p .2, p .3, p .4, p .5, rw (error-is c) (each-getD (p .6) _ (pos 0) inside), omega arith)
+    record {
+      row = p .row;
+      error-small = rw (error-is c) (each-getD (p .errors-small) _ (pos 0) inside);
+      column = omega arith;
+    }
 
 loop-again : tie.Need-loop-again Inv-loop μ-loop
 loop-again c =

@@ -10,51 +10,55 @@ use lib.ListN.{length, drop, length-drop, length-take, length-append}
 use borrow.Author.Needs.{needs}
 use borrow.Rule.Slice.PartMut.{mid-len}
 use Rattle.whole.specs.Lists.{length-tabulate}
-use Rattle.refusal.specs.First.{firstOf, doneOr-done, doneOr-refused}
+use Rattle.refusal.specs.First.{firstOf}
 use Rattle.scheme.specs.Arithmetic.{switchingKey}
-use Rattle.scheme.specs.Calls.{makeKeyRows, makeKeyAnswer, makeKeyResult}
-use Rattle.switchingkey.proofs.Ready.{MakeKeyReady, make-key-ready, two-parts}
+use Rattle.scheme.specs.Calls.{MakeKeyLoans, makeKeyLoans, makeKeyRows}
+use Rattle.switchingkey.specs.Ready.{MakeKeyReady}
+use Rattle.switchingkey.proofs.Ready.{make-key-ready, fill-ready, two-parts}
+use Rattle.switchingkey.proofs.Ends.{make-key-refused, make-key-done}
 use Rattle.switchingkey.proofs.make_switching_key.Statement.{statement}
 use Rattle.switchingkey.proofs.make_switching_key.Tie as tie
 
+abbrev loans : tie.After-make-key-number → MakeKeyLoans
+loans c = let s = c .before .before .args in makeKeyLoans (s .p) (s .s .now) (s .masks .now) (s .errors .now) (s .out .now)
+
 returns : tie.Need-returns
-unfolding makeKeyAnswer makeKeyResult
-returns c = (rw (c .before .make-key-number .ensures), sym (doneOr-refused _ _ (λ z. c .if1 .taken (c .before .make-key-number .ensures ∙ z))))
+returns c = make-key-refused (loans (c .before)) (c .before .make-key-number .ensures) (c .if1 .taken)
 
--- the number is 0
-done : (c : tie.Else1)
-    → let args = c .before .before .args in
-    firstOf (makeKeyRows (args .p) (args .s .now) (args .masks .now) (args .errors .now) (length (args .out .now))) ≡ 0
-done c = sym (c .before .make-key-number .ensures) ∙ c .if1 .left
+-- past the refusals
+zero : (c : tie.Else1) → firstOf (makeKeyRows (loans (c .before))) ≡ 0
+zero c = sym (c .before .make-key-number .ensures) ∙ c .if1 .left
 
-ready : (c : tie.Else1)
-    → let args = c .before .before .args in MakeKeyReady (args .p) (args .s .now) (args .masks .now) (args .errors .now) (length (args .out .now))
-ready c = make-key-ready _ _ _ _ _ (done c)
+ready : (c : tie.Else1) → MakeKeyReady (loans (c .before))
+ready c = make-key-ready (loans (c .before)) (zero c)
 
 part-fill-row-zero-end : tie.Need-part-fill-row-zero-end
-part-fill-row-zero-end c = omega (arith, ready c .result-long)
+part-fill-row-zero-end c = omega (arith, ready c .room)
 
 fill-row-zero-requires : tie.Need-fill-row-zero-requires
 fill-row-zero-requires c κs =
     let r = ready (c .before) in
-    (r .modulus, r .low, r .high, r .key, r .masks-long, r .masks-small, r .errors-small, r .errors-long, simp length-take (omega (arith, r .result-long, r .errors-long)))
+    fill-ready r _ (simp length-take (omega (arith, r .room)))
 
 -- ---- row 0 is written
+
+-- what it was written of
+abbrev lent : tie.After-fill-row-zero → MakeKeyLoans
+lent c = loans (c .before .before .before)
 
 abbrev row-zero : tie.After-fill-row-zero → List ℤ
 row-zero c = c .fill-row-zero .last .1 .1 .1 .1 .0
 
 -- what lies after it
 abbrev rest : tie.After-fill-row-zero → List ℤ
-rest c = let args = c .before .before .before .before .args in drop (length (args .errors .now) - 0) (args .out .now)
+rest c = drop (length (lent c .errors) - 0) (lent c .result)
 
-row-long : (c : tie.After-fill-row-zero) → length (row-zero c) ≡ length (c .before .before .before .before .args .errors .now)
+row-long : (c : tie.After-fill-row-zero) → length (row-zero c) ≡ length (lent c .errors)
 row-long c = ap length (c .fill-row-zero .ensures) ∙ length-tabulate _ _ ∙ sym (ready (c .before .before) .errors-long)
 
 -- with the masks after it it is the key
 key-is : (c : tie.After-fill-row-zero)
-    → let args = c .before .before .before .before .args in
-    row-zero c ++ args .masks .now ≡ switchingKey (args .p .n) (args .p .q) (args .s .now) (args .masks .now) (args .errors .now)
+    → let a = lent c in row-zero c ++ a .masks ≡ switchingKey (a .p .n) (a .p .q) (a .key) (a .masks) (a .errors)
 unfolding switchingKey
 key-is c = rw (c .fill-row-zero .ensures, ready (c .before .before) .count)
 
@@ -67,26 +71,24 @@ part-copy-start c = omega (arith, row-long (c .before), length-append (row-zero 
 copy-requires : tie.Need-copy-requires
 copy-requires c κs =
     let d = c .before .before in
-    let args = d .before .before .before .before .args in
-    let k = length (args .errors .now) in
+    let k = length (lent d .errors) in
     sym (mid-len k (length (row-zero d ++ rest d)) (row-zero d ++ rest d) (omega arith)
-    ∙ omega (arith, length-append (row-zero d) (rest d), row-long d, length-drop (k - 0) (args .out .now), ready (d .before .before) .result-long))
+    ∙ omega (arith, length-append (row-zero d) (rest d), row-long d, length-drop (k - 0) (lent d .result), ready (d .before .before) .room))
 
 returns-2 : tie.Need-returns-2
-unfolding makeKeyAnswer makeKeyResult
 returns-2 c =
     let d = c .before .before .before .before in
-    let args = d .before .before .before .before .args in (
-      rw (done (d .before .before)),
-      rw (c .before .copy .ensures)
-          (two-parts (row-zero d) (args .masks .now) (rest d) (length (args .errors .now)) (row-long d) ∙ key-is d ∙ sym (doneOr-done _ _ (done (d .before .before)))),
-    )
+    let e = d .before .before in
+    let a = lent d in
+    make-key-done a (zero e)
+    (rw (c .before .copy .ensures) (two-parts (row-zero d) (a .masks) (rest d) (length (a .errors)) (row-long d) ∙ key-is d))
 
 pub make-switching-key-spec : {M : Type 1} → statement M
 make-switching-key-spec =
     tie.close
     (tie.spec
     (λ c κs. search needs)
+    (λ c. search needs)
     returns
     (λ c. search needs)
     (λ c. search needs)

@@ -48,10 +48,10 @@ entry c u = getD (c .args .s .now) u (pos 0)
 -- q·su at any place u, and as the machine has it
 module _ (c : tie.Start) (u : ℕ) where
   entry-small : natAbs (entry c u) ≤ 4096
-  entry-small = le-trans (entry-size _ _) (c .pre .3)
+  entry-small = le-trans (entry-size _ _) (c .pre .row .key-small)
 
   first-small : natAbs (pos (c .args .q) *ℤ entry c u) ≤ 4294967296
-  first-small = omega (arith, size-mul (pos (c .args .q)) (entry c u), mul-le-mul (c .pre .0 .high) entry-small)
+  first-small = omega (arith, size-mul (pos (c .args .q)) (entry c u), mul-le-mul (c .pre .row .modulus .high) entry-small)
 
   first-fits : SFits w64 (pos (c .args .q) *ℤ entry c u)
   first-fits = fits64 _ (omega (arith, first-small))
@@ -60,7 +60,7 @@ module _ (c : tie.Start) (u : ℕ) where
   machine-first = toZ w64 (c .args .q) *ℤ word w64 (word w32 (entry c u))
 
   first-is : SFits w32 (entry c u) → machine-first ≡ pos (c .args .q) *ℤ entry c u
-  first-is f = ap₂ _*ℤ_ (toZ-pos w64 {n = c .args .q} (omega (arith, c .pre .0 .high))) (widened f)
+  first-is f = ap₂ _*ℤ_ (toZ-pos w64 {n = c .args .q} (omega (arith, c .pre .row .modulus .high))) (widened f)
 
 -- q·su·sv at any places u and v, and as the machine has it
 module _ (c : tie.Start) (u v : ℕ) where
@@ -108,13 +108,13 @@ mul-product-4 c =
 -- ---- less the inner product, and the error
 
 mul-inner-column : tie.Need-mul-inner-column
-mul-inner-column c = omega (arith, mul-le-mul (c .before .before .before .pre .2) (c .before .before .before .pre .2))
+mul-inner-column c = omega (arith, mul-le-mul (c .before .before .before .pre .row .high) (c .before .before .before .pre .row .high))
 
 inner-column-requires : tie.Need-inner-column-requires
 inner-column-requires c κs =
     let p = c .before .before .before .pre in
     let s = c .before .before .before .args .s .now in
-    simp (rest, length-drop) (p .4, p .7, omega (arith, sizes-drop s 1), p .5)
+    simp (rest, length-drop) (p .row .masks-long, p .column, omega (arith, sizes-drop s 1, p .row .key-small), p .row .masks-small)
 
 -- the other two terms
 abbrev column-of : tie.After-inner-column → ℤ
@@ -129,7 +129,7 @@ module _ (c : tie.After-inner-column) where
   column-small : natAbs (column-of c) ≤ 2251799813685248
   column-small =
       let start = c .before .before .before .before in
-      column-size (start .args .s .now) (start .args .masks .now) (start .args .j) (start .pre .3) (start .pre .4) (start .pre .5) (start .pre .7)
+      column-size (start .args .s .now) (start .args .masks .now) (start .args .j) (start .pre .row .key-small) (start .pre .row .masks-long) (start .pre .row .masks-small) (start .pre .column)
 
   column-is : word w64 (c .inner-column .result) ≡ column-of c
   unfolding maskColumn
@@ -149,7 +149,7 @@ module _ (c : tie.After-inner-column) (u v : ℕ) where
   less-fits = fits64 _ (omega (arith, less-small))
 
   total-fits : SFits w64 (less +ℤ error-of c)
-  total-fits = fits64 _ (omega (arith, size-add less (error-of c), less-small, c .before .before .before .before .pre .6))
+  total-fits = fits64 _ (omega (arith, size-add less (error-of c), less-small, c .before .before .before .before .pre .error-small))
 
   abbrev machine-less : ℤ
   machine-less = word w64 (machine-product (c .before .before .before .before) u v) -ℤ word w64 (c .inner-column .result)
