@@ -1,7 +1,8 @@
-ghost use mathlib.Core.Path.{_≡_};
-ghost use lib.ListN.{length};
 ghost use Rattle.refusal.specs.Parameters.{params};
-ghost use Rattle.circuit.specs.Core.{planCoreAnswer, planCoreBounds, evaluateCoreAnswer, evaluateCoreWires, evaluateCoreBounds, evaluateCoreScratch};
+ghost use Rattle.circuit.specs.Circuits.{asLists};
+ghost use Rattle.circuit.specs.Plan.{planLoans};
+ghost use Rattle.circuit.specs.Evaluate.{evaluateLoans};
+ghost use Rattle.bench.specs.Numbers.{PlanNumber, EvaluateNumber};
 use evaluation::evaluate;
 use planning::plan;
 use refusal::Params;
@@ -20,8 +21,7 @@ pub extern "C" fn bench_plan(
     rights: &[u32],
     bounds: &mut [u32],
 ) -> u32
-    ensures answer { λ r. ⌜ r ≡ (planCoreAnswer (params n q l e f) inputs (now (kinds .entry)) (now (lefts .entry)) (now (rights .entry)) (now (bounds .entry))) .number ⌝ }
-    ensures buffer { λ r. ⌜ now (bounds .exit) ≡ planCoreBounds (params n q l e f) inputs (now (kinds .entry)) (now (lefts .entry)) (now (rights .entry)) (now (bounds .entry)) ⌝ }
+    ensures { λ r. ⌜ PlanNumber (planLoans (params n q l e f) inputs (asLists (now (kinds .entry)) (now (lefts .entry)) (now (rights .entry))) (now (bounds .entry))) r (now (bounds .exit)) ⌝ }
 {
     plan(
         Params { n, q, l, e, f },
@@ -50,10 +50,7 @@ pub extern "C" fn bench_evaluate(
     key: &[i64],
     scratch: &mut [i64],
 ) -> u32
-    ensures answer { λ r. ⌜ r ≡ (evaluateCoreAnswer (params n q l e f) inputs (now (kinds .entry)) (now (lefts .entry)) (now (rights .entry)) (now (wires .entry)) (now (bounds .entry)) (now (key .entry)) (length (now (scratch .entry)))) .number ⌝ }
-    ensures wires { λ r. ⌜ now (wires .exit) ≡ evaluateCoreWires (params n q l e f) inputs (now (kinds .entry)) (now (lefts .entry)) (now (rights .entry)) (now (wires .entry)) (now (bounds .entry)) (now (key .entry)) (now (scratch .entry)) ⌝ }
-    ensures bounds { λ r. ⌜ now (bounds .exit) ≡ evaluateCoreBounds (params n q l e f) inputs (now (kinds .entry)) (now (lefts .entry)) (now (rights .entry)) (now (wires .entry)) (now (bounds .entry)) (now (key .entry)) (now (scratch .entry)) ⌝ }
-    ensures scratch { λ r. ⌜ now (scratch .exit) ≡ evaluateCoreScratch (params n q l e f) inputs (now (kinds .entry)) (now (lefts .entry)) (now (rights .entry)) (now (wires .entry)) (now (bounds .entry)) (now (key .entry)) (now (scratch .entry)) ⌝ }
+    ensures { λ r. ⌜ EvaluateNumber (evaluateLoans (planLoans (params n q l e f) inputs (asLists (now (kinds .entry)) (now (lefts .entry)) (now (rights .entry))) (now (bounds .entry))) (now (wires .entry)) (now (key .entry)) (now (scratch .entry))) r (now (wires .exit)) (now (bounds .exit)) (now (scratch .exit)) ⌝ }
 {
     evaluate(
         Params { n, q, l, e, f },

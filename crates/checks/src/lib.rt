@@ -1,13 +1,11 @@
 // The checks of a circuit's gates, counts and bounds: document 01's *Circuits*. What each answers is defined in the crate circuit.
 ghost use mathlib.Core.Path.{_≡_};
 ghost use mathlib.Core.Bool.{not};
-ghost use Prim.Native.Nat.{_≤_, _+_};
-ghost use lib.ListN.{length};
 ghost use Rattle.whole.specs.Lists.{every};
 ghost use Rattle.refusal.specs.First.{firstTrue};
 ghost use Rattle.scheme.specs.Arithmetic.{fits};
-ghost use Rattle.circuit.specs.Circuits.{badCounts, wrongGate, wrongGates};
-ghost use Rattle.circuit.specs.Core.{gate, records};
+ghost use Rattle.circuit.specs.Circuits.{gate, badCounts, wrongGate, wrongGates, records};
+ghost use Rattle.checks.specs.Ready.{ListsReady};
 
 // 2: the count of inputs or gates is outside its range.
 pub fn are_bad_counts(inputs: u32, gates: usize) -> bool
@@ -41,7 +39,7 @@ pub fn is_wrong(own: u32, kind: u32, left: u32, right: u32) -> bool
 
 // The first wrong gate, or the number of gates where none is wrong. Gate 0 makes the wire `inputs`.
 pub fn first_wrong(inputs: u32, kinds: &[u32], lefts: &[u32], rights: &[u32]) -> usize
-    requires { ⌜ (inputs ≤ 1024) × (length (now kinds) ≤ 4096) × (length (now lefts) ≡ length (now kinds)) × (length (now rights) ≡ length (now kinds)) ⌝ }
+    requires { ⌜ ListsReady inputs (now kinds) (now lefts) (now rights) ⌝ }
     ensures { λ r. ⌜ r ≡ firstTrue (wrongGates inputs (records (now (kinds .entry)) (now (lefts .entry)) (now (rights .entry)))) ⌝ }
 {
     let mut own = inputs;

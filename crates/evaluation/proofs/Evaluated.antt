@@ -1,78 +1,91 @@
--- The rows of evaluation in two stages: 1, 2, 3 and 6, which it tests itself, and 8, 9 and 10, which are planning's. What each stage tells of the answer,
--- and what success tells of the loans.
+-- The rows of evaluation in two stages: those that it tests itself, and then 8, 9 and 10, which are planning's. And the three ends of evaluation: what each
+-- answers and leaves, where the first stage refuses, where planning does, and where neither does.
 use mathlib.Core.Path.{_≡_, refl, sym, ap, _∙_}
 use mathlib.Core.Logic.{_≢_}
-use mathlib.Core.List.{List}
-use Prim.Native.Nat.{ℕ, _+_, _*_, _<_}
-use native.Mathlib.Omega.{arith}
-use lib.IntN.{ℤ}
-use lib.ListN.{length, take, drop}
-use Rattle.whole.specs.Tests.{or-left, or-right, or-neither}
-use Rattle.whole.specs.Lists.{nil, cons}
-use Rattle.refusal.specs.declared.Params.{Params}
-use Rattle.refusal.specs.First.{Row, firstOf, rising-row, rising-none, Clear, first-clear, first-each, first-front, first-rest}
-use Rattle.refusal.specs.Parameters.{refused}
-use Rattle.scheme.specs.Calls.{differs}
-use Rattle.scheme.specs.Passed.{params-in-range, length-is, entries-inside}
-use Rattle.circuit.specs.Circuits.{gateRows}
-use Rattle.working.specs.Ready.{EvaluateReady}
-use Rattle.circuit.specs.Answers.{place-early}
-use Rattle.circuit.specs.Core.{records, uneven, planCoreRows, planCoreAnswer, planCoreBounds, evaluateCoreRows, evaluateCoreAnswer, evaluateCoreBounds}
+use mathlib.Core.List.{List, [], _∷_, _++_, flatten}
+use Prim.Native.Nat.{ℕ, _*_}
+use lib.IntN.{ℤ, pos}
+use lib.ListN.{take, replicate}
+use Rattle.whole.specs.Tests.{or-neither}
+use Rattle.whole.specs.Lists.{cut}
+use Rattle.refusal.specs.declared.Refusal.{Refusal}
+use Rattle.refusal.specs.First.{Row, refused, firstOf, Clear, areSingle, first-front, answer-rest, doneOr-done, doneOr-refused}
+use Rattle.scheme.specs.Passed.{lengths-same}
+use Rattle.circuit.specs.Circuits.{wiresOf}
+use Rattle.circuit.specs.Plan.{stated, statedRow, circuitRows, planFront, planRows, planAnswer, planBounds, PlanPromise}
+use Rattle.circuit.specs.Evaluate.{EvaluateLoans, evaluateFront, evaluateRows, evaluateAnswer, evaluateWires, evaluateBounds, evaluateScratch, EvaluatePromise}
+use Rattle.circuit.specs.Answers.{answered-early}
+use Rattle.circuit.specs.Passed.{EvaluatePassed, evaluate-clear, evaluate-passed}
 
--- ---- the two stages
+module _ (a : EvaluateLoans) where
+  answer-number : {r : Refusal} → r ≡ evaluateAnswer a → r .number ≡ firstOf (evaluateRows a)
+  unfolding evaluateAnswer
+  answer-number e = ap (λ (x : Refusal). x .number) e
 
-module _ (p : Params) (inputs : ℕ) (ks ls rs : List ℕ) (wires : List ℤ) (Bs : List ℕ) (W : List ℤ) (scratch : ℕ) where
-  abbrev rows : List Row
-  rows = evaluateCoreRows p inputs ks ls rs wires Bs W scratch
+  -- a refusal leaves all as found
+  evaluated-refused : {r : Refusal} {bounds : List ℕ} → r ≡ evaluateAnswer a → r .number ≢ 0 → bounds ≡ evaluateBounds a → EvaluatePromise a r (a .wires) bounds (a .scratch)
+  unfolding evaluateWires evaluateScratch
+  evaluated-refused e h b =
+      let refuses : firstOf (evaluateRows a) ≢ 0 = λ z. h (answer-number e ∙ z) in
+      record { answer = e; wires-left = sym (doneOr-refused _ _ refuses); bounds-left = b; scratch-left = sym (doneOr-refused _ _ refuses) }
 
-  -- the first stage refuses
-  pub early-number : {r : ℕ} → r ≡ firstOf (take 4 rows) → r ≢ 0 → firstOf rows ≡ r
-  unfolding evaluateCoreRows
-  early-number e h = first-front (take 4 rows) (drop 4 rows) (λ z. h (e ∙ z)) ∙ sym e
+  -- ---- the first stage refuses
 
-  pub early-answer : {r : ℕ} → r ≡ firstOf (take 4 rows) → r ≢ 0 → refused r 0 ≡ evaluateCoreAnswer p inputs ks ls rs wires Bs W scratch
-  unfolding evaluateCoreAnswer evaluateCoreRows
-  early-answer {r} e h =
-      let small : r < 9 = rw e (first-each (λ k. k < 9) (omega arith) (cons (omega arith) (cons (omega arith) (cons (omega arith) (cons (omega arith) nil))))) in
-      rw (early-number e h) (ap (refused r) (sym (place-early p inputs (records ks ls rs) (take inputs Bs) r small)))
+  early-answer : {n : ℕ} → n ≡ firstOf (evaluateFront a) → n ≢ 0 → refused n 0 ≡ evaluateAnswer a
+  unfolding evaluateAnswer evaluateRows evaluateFront areSingle
+  early-answer e h =
+      let l = a .plan in
+      let front : List Row = evaluateFront a ++ (statedRow l ∷ []) in
+      answered-early (l .p) (l .inputs) (l .circuit .gates) (stated l) front (e ∙ sym (first-front (evaluateFront a) (statedRow l ∷ []) (λ z. h (e ∙ z)))) h refl
 
-  -- it does not: what is left is planning's
-  pub late-number : firstOf (take 4 rows) ≡ 0 → firstOf rows ≡ firstOf (planCoreRows p inputs ks ls rs Bs)
-  unfolding evaluateCoreRows planCoreRows
-  late-number e =
-      let t : Clear (take 4 rows) = first-clear (take 4 rows) 0 (simp (rising-row, rising-none)) e in
-      let planned : List Row = planCoreRows p inputs ks ls rs Bs in
-      let u : Clear (take 3 planned) = (t .0, (t .1 .0, (or-neither {a = uneven ks ls rs} {b = differs (length Bs) (inputs + length ks)} (search (or-left, t .1 .1 .0) depth 8) (search (or-left, or-right, t .1 .1 .0) depth 8), tt))) in
-      first-rest (take 4 rows) (drop 4 rows) t ∙ sym (first-rest (take 3 planned) (drop 3 planned) u)
+  pub evaluated-early : {n : ℕ} → n ≡ firstOf (evaluateFront a) → n ≢ 0 → EvaluatePromise a (refused n 0) (a .wires) (a .plan .bounds) (a .scratch)
+  unfolding evaluateBounds
+  evaluated-early e h =
+      let answer : refused _ 0 ≡ evaluateAnswer a = early-answer e h in
+      evaluated-refused answer h (sym (doneOr-refused _ _ (λ z. h (answer-number answer ∙ z))))
 
-  pub late-answer : firstOf (take 4 rows) ≡ 0 → planCoreAnswer p inputs ks ls rs Bs ≡ evaluateCoreAnswer p inputs ks ls rs wires Bs W scratch
-  unfolding planCoreAnswer evaluateCoreAnswer
-  late-answer e = rw (late-number e)
+  -- ---- it does not: what is left is planning's
 
-  pub answer-number : (evaluateCoreAnswer p inputs ks ls rs wires Bs W scratch) .number ≡ firstOf rows
-  unfolding evaluateCoreAnswer
-  answer-number = refl
+  module _ (front : firstOf (evaluateFront a) ≡ 0) where
+    late-answer : planAnswer (a .plan) ≡ evaluateAnswer a
+    unfolding planAnswer planRows planFront evaluateAnswer evaluateRows
+    late-answer =
+        let l = a .plan in
+        let late : List Row = statedRow l ∷ circuitRows l in
+        let clear : Clear (evaluateFront a) = evaluate-clear a front in
+        let h : EvaluatePassed a = evaluate-passed a clear in
+        let three = or-neither (h .even) (lengths-same _ _ (h .bounds-long)) in
+        let before : Clear (take 3 (planFront l)) = ((h .params, tt), ((h .counts, tt), ((three, tt), tt))) in
+        answer-rest (take 3 (planFront l)) late before ∙ sym (answer-rest (evaluateFront a) late clear)
 
-  -- neither refuses
-  pub evaluate-ready : firstOf rows ≡ 0 → EvaluateReady p inputs ks ls rs wires W scratch
-  unfolding evaluateCoreRows uneven gateRows
-  evaluate-ready e =
-      let t : Clear rows = first-clear rows 0 (simp (rising-row, rising-none)) e in
-      let lengths = t .1 .1 .0 in
-      record {
-        range = params-in-range p (t .0);
-        lefts-long = length-is (length ls) (length ks) (search (or-left, or-right, lengths) depth 10);
-        rights-long = length-is (length rs) (length ks) (search (or-left, or-right, lengths) depth 10);
-        wires-long = length-is (length wires) ((inputs + length ks) * p .n) (search (or-left, or-right, lengths) depth 10);
-        key-long = length-is (length W) (p .n * (p .n * p .n)) (search (or-left, or-right, lengths) depth 10);
-        scratch-long = length-is scratch (p .n * p .n) (search (or-left, or-right, lengths) depth 10);
-        inside = entries-inside (p .q) (take (inputs * p .n) wires) (search (or-left, or-right, t .1 .1 .1 .0) depth 8);
-        key-inside = entries-inside (p .q * p .q) W (search (or-left, or-right, t .1 .1 .1 .0) depth 8);
-        gates-right = t .1 .1 .1 .1 .1 .0;
-      }
+    late-bounds : planBounds (a .plan) ≡ evaluateBounds a
+    unfolding planAnswer evaluateAnswer planBounds evaluateBounds
+    late-bounds =
+        let same : firstOf (planRows (a .plan)) ≡ firstOf (evaluateRows a) = ap (λ (r : Refusal). r .number) late-answer in
+        rw same
 
-pub late-bounds : (p : Params) (inputs : ℕ) (ks ls rs : List ℕ) (wires : List ℤ) (Bs : List ℕ) (W scratch : List ℤ)
-    → firstOf (take 4 (evaluateCoreRows p inputs ks ls rs wires Bs W (length scratch))) ≡ 0
-    → planCoreBounds p inputs ks ls rs Bs ≡ evaluateCoreBounds p inputs ks ls rs wires Bs W scratch
-unfolding planCoreBounds evaluateCoreBounds
-late-bounds p inputs ks ls rs wires Bs W scratch e = rw (late-number p inputs ks ls rs wires Bs W (length scratch) e)
+    module _ {r : Refusal} {bounds : List ℕ} (planned : PlanPromise (a .plan) r bounds) where
+      answer : r ≡ evaluateAnswer a
+      answer = planned .answer ∙ late-answer
+
+      pub evaluated-late : r .number ≢ 0 → EvaluatePromise a r (a .wires) bounds (a .scratch)
+      evaluated-late h = evaluated-refused answer h (planned .bounds-left ∙ late-bounds)
+
+      -- ---- neither refuses
+
+      module _ (none : r .number ≡ 0) where
+        pub evaluated-clear : firstOf (evaluateRows a) ≡ 0
+        evaluated-clear = sym (answer-number answer) ∙ none
+
+        pub evaluated-done : {wires scratch : List ℤ}
+            → wires ≡ flatten (wiresOf (a .plan .p) (a .key) (a .plan .circuit .gates) (cut (a .plan .p .n) (a .plan .inputs) (a .wires)))
+            → scratch ≡ replicate (a .plan .p .n * a .plan .p .n) (pos 0)
+            → EvaluatePromise a r wires bounds scratch
+        unfolding evaluateWires evaluateScratch
+        evaluated-done w s =
+            record {
+              answer = answer;
+              wires-left = w ∙ sym (doneOr-done _ _ evaluated-clear);
+              bounds-left = planned .bounds-left ∙ late-bounds;
+              scratch-left = s ∙ sym (doneOr-done _ _ evaluated-clear);
+            }

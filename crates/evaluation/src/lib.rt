@@ -1,10 +1,9 @@
 // Evaluating a circuit of XOR, AND and NOT gates on encrypted wires, over three slices.
 mod number;
 
-ghost use mathlib.Core.Path.{_≡_};
-ghost use lib.ListN.{length};
-ghost use Rattle.circuit.specs.Core.{evaluateCoreAnswer, evaluateCoreWires, evaluateCoreBounds, evaluateCoreScratch};
-use modular::buffer::zero;
+ghost use Rattle.circuit.specs.Circuits.{asLists};
+ghost use Rattle.circuit.specs.Plan.{planLoans};
+ghost use Rattle.circuit.specs.Evaluate.{evaluateLoans, EvaluatePromise};
 use number::evaluate_number;
 use planning::plan;
 use refusal::Params;
@@ -24,22 +23,9 @@ pub fn evaluate(
     key: &[i64],
     scratch: &mut [i64],
 ) -> Refusal
-    ensures { λ r. ⌜ r ≡ evaluateCoreAnswer p inputs (now (kinds .entry)) (now (lefts .entry)) (now (rights .entry)) (now (wires .entry)) (now (bounds .entry)) (now (key .entry)) (length (now (scratch .entry))) ⌝ }
-    ensures { λ r. ⌜ now (wires .exit) ≡ evaluateCoreWires p inputs (now (kinds .entry)) (now (lefts .entry)) (now (rights .entry)) (now (wires .entry)) (now (bounds .entry)) (now (key .entry)) (now (scratch .entry)) ⌝ }
-    ensures { λ r. ⌜ now (bounds .exit) ≡ evaluateCoreBounds p inputs (now (kinds .entry)) (now (lefts .entry)) (now (rights .entry)) (now (wires .entry)) (now (bounds .entry)) (now (key .entry)) (now (scratch .entry)) ⌝ }
-    ensures { λ r. ⌜ now (scratch .exit) ≡ evaluateCoreScratch p inputs (now (kinds .entry)) (now (lefts .entry)) (now (rights .entry)) (now (wires .entry)) (now (bounds .entry)) (now (key .entry)) (now (scratch .entry)) ⌝ }
+    ensures { λ r. ⌜ EvaluatePromise (evaluateLoans (planLoans p inputs (asLists (now (kinds .entry)) (now (lefts .entry)) (now (rights .entry))) (now (bounds .entry))) (now (wires .entry)) (now (key .entry)) (now (scratch .entry))) r (now (wires .exit)) (now (bounds .exit)) (now (scratch .exit)) ⌝ }
 {
-    let number = evaluate_number(
-        p,
-        inputs,
-        kinds,
-        lefts,
-        rights,
-        wires,
-        bounds,
-        key,
-        scratch.len(),
-    );
+    let number = evaluate_number(p, inputs, kinds, lefts, rights, wires, bounds, key, scratch);
     if number != 0 {
         return Refusal { number, place: 0 };
     }
@@ -57,6 +43,5 @@ pub fn evaluate(
         key,
         scratch,
     );
-    zero(scratch);
     planned
 }

@@ -1,7 +1,8 @@
 ghost use mathlib.Core.Path.{_≡_};
-ghost use lib.ListN.{take};
 ghost use Rattle.refusal.specs.First.{firstOf};
-ghost use Rattle.circuit.specs.Core.{evaluateCoreRows};
+ghost use Rattle.circuit.specs.Circuits.{asLists};
+ghost use Rattle.circuit.specs.Plan.{planLoans};
+ghost use Rattle.circuit.specs.Evaluate.{evaluateLoans, evaluateFront};
 use checks::are_bad_counts;
 use keys::tests::is_outside;
 use keys::tests::is_outside_big;
@@ -18,9 +19,9 @@ pub fn evaluate_number(
     wires: &[i64],
     bounds: &[u32],
     key: &[i64],
-    scratch: usize,
+    scratch: &[i64],
 ) -> u32
-    ensures { λ r. ⌜ r ≡ firstOf (take 4 (evaluateCoreRows p inputs (now (kinds .entry)) (now (lefts .entry)) (now (rights .entry)) (now (wires .entry)) (now (bounds .entry)) (now (key .entry)) scratch)) ⌝ }
+    ensures { λ r. ⌜ r ≡ firstOf (evaluateFront (evaluateLoans (planLoans p inputs (asLists (now (kinds .entry)) (now (lefts .entry)) (now (rights .entry))) (now (bounds .entry))) (now (wires .entry)) (now (key .entry)) (now (scratch .entry)))) ⌝ }
 {
     if !p.in_range() {
         return 1;
@@ -38,7 +39,7 @@ pub fn evaluate_number(
         | length_differs(wires.len(), total * n)
         | length_differs(bounds.len(), total)
         | length_differs(key.len(), n * square)
-        | length_differs(scratch, square)
+        | length_differs(scratch.len(), square)
     {
         return 3;
     }

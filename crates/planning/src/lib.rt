@@ -1,14 +1,13 @@
 // Planning a circuit whose gates are lent in three lists: the checks of its gates, and the bounds of its wires.
 ghost use mathlib.Core.Path.{_≡_};
-ghost use mathlib.Core.Bool.{true, false};
-ghost use Prim.Native.Nat.{_+_, _*_, _≤_, _<_};
+ghost use Prim.Native.Nat.{_≤_};
 ghost use lib.ListN.{length, take};
-ghost use Rattle.whole.specs.Lists.{every};
-ghost use Rattle.refusal.specs.First.{firstTrue, someTrue, firstOf};
-ghost use Rattle.refusal.specs.Parameters.{InRange};
-ghost use Rattle.scheme.specs.Arithmetic.{fits, XOR-bound, AND-bound, NOT-bound};
-ghost use Rattle.circuit.specs.Circuits.{byKind, wrongGates, overGates, boundsOf};
-ghost use Rattle.circuit.specs.Core.{records, planCoreRows, planCoreAnswer, planCoreBounds};
+ghost use Rattle.refusal.specs.First.{firstTrue, firstOf};
+ghost use Rattle.scheme.specs.Arithmetic.{XOR-bound, AND-bound, NOT-bound};
+ghost use Rattle.circuit.specs.Circuits.{byKind, overGates, boundsOf, records, asLists};
+ghost use Rattle.circuit.specs.Plan.{planLoans, planFront, PlanPromise};
+ghost use Rattle.gates.specs.Ready.{AndBoundReady};
+ghost use Rattle.planning.specs.Ready.{SettleReady};
 use checks::are_bad_counts;
 use checks::first_wrong;
 use checks::is_some_over;
@@ -18,7 +17,7 @@ use refusal::Refusal;
 
 // The bound of one gate's wire, before it is held to the budget.
 fn gate_bound(p: Params, kind: u32, b1: u32, b2: u32) -> u64
-    requires { ⌜ InRange p × (4 * b1 < p .q) × (4 * b2 < p .q) ⌝ }
+    requires { ⌜ AndBoundReady p b1 b2 ⌝ }
     ensures { λ r. ⌜ (r ≡ byKind kind (XOR-bound b1 b2) (AND-bound (p .n) (p .q) (p .l) (p .f) b1 b2) (NOT-bound b1)) × (r ≤ 1099511627776) ⌝ }
 {
     if kind == 0 {
@@ -40,7 +39,7 @@ fn settle(
     rights: &[u32],
     table: &mut [u32],
 ) -> usize
-    requires { ⌜ InRange p × (inputs ≤ 1024) × (length (now kinds) ≤ 4096) × (length (now lefts) ≡ length (now kinds)) × (length (now rights) ≡ length (now kinds)) × (length (now table) ≡ inputs + length (now kinds)) × (every (fits (p .q)) (take inputs (now table)) ≡ true) × (someTrue (wrongGates inputs (records (now kinds) (now lefts) (now rights))) ≡ false) ⌝ }
+    requires { ⌜ SettleReady p inputs (now kinds) (now lefts) (now rights) (now table) ⌝ }
     ensures { λ r. ⌜ r ≡ firstTrue (overGates p (records (now (kinds .entry)) (now (lefts .entry)) (now (rights .entry))) (take inputs (now (table .entry)))) ⌝ }
     ensures { λ r. ⌜ (length (now (kinds .entry)) ≤ r → now (table .exit) ≡ boundsOf p (records (now (kinds .entry)) (now (lefts .entry)) (now (rights .entry))) (take inputs (now (table .entry)))) ⌝ }
 {
@@ -81,7 +80,7 @@ fn plan_number(
     rights: &[u32],
     bounds: &[u32],
 ) -> u32
-    ensures { λ r. ⌜ r ≡ firstOf (take 4 (planCoreRows p inputs (now (kinds .entry)) (now (lefts .entry)) (now (rights .entry)) (now (bounds .entry)))) ⌝ }
+    ensures { λ r. ⌜ r ≡ firstOf (planFront (planLoans p inputs (asLists (now (kinds .entry)) (now (lefts .entry)) (now (rights .entry))) (now (bounds .entry)))) ⌝ }
 {
     if !p.in_range() {
         return 1;
@@ -106,8 +105,7 @@ pub fn plan(
     rights: &[u32],
     bounds: &mut [u32],
 ) -> Refusal
-    ensures { λ r. ⌜ r ≡ planCoreAnswer p inputs (now (kinds .entry)) (now (lefts .entry)) (now (rights .entry)) (now (bounds .entry)) ⌝ }
-    ensures { λ r. ⌜ now (bounds .exit) ≡ planCoreBounds p inputs (now (kinds .entry)) (now (lefts .entry)) (now (rights .entry)) (now (bounds .entry)) ⌝ }
+    ensures { λ r. ⌜ PlanPromise (planLoans p inputs (asLists (now (kinds .entry)) (now (lefts .entry)) (now (rights .entry))) (now (bounds .entry))) r (now (bounds .exit)) ⌝ }
 {
     let number = plan_number(p, inputs, kinds, lefts, rights, bounds);
     if number != 0 {

@@ -1,5 +1,4 @@
 pub mod Calling
-pub mod Facts
 pub mod Gates
 pub mod Listing
 pub mod Rows

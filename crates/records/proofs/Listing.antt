@@ -1,5 +1,5 @@
 -- Gates listed by their fields. The invariant of `list` and its laws: the fields of the first i gates are listed, the rest of each list is as
--- found. And what the numeric core works of the lists is what is said of the gates (`listed-agrees`).
+-- found. And a circuit that is lent as the lists is that of the gates (`listed-circuit`).
 use mathlib.Core.Path.{_≡_, sym, ap, _∙_}
 use mathlib.Core.List.{List}
 use Prim.Native.Nat.{ℕ, _+_, _-_, _<_}
@@ -8,7 +8,8 @@ use native.Mathlib.Omega.{arith}
 use lib.ListN.{length, getD, take, set}
 use Rattle.whole.specs.Lists.{Filled, fill-start, fill-step, fill-front, getD-map, take-map}
 use Rattle.circuit.specs.declared.Gate.{Gate}
-use Rattle.circuit.specs.Core.{records}
+use Rattle.circuit.specs.Circuits.{asRecords, asLists}
+use Rattle.circuit.specs.Records.{lists-records}
 use Rattle.records.specs.First.{kindsOf, leftsOf, rightsOf, Listed, length-kinds, length-lefts, length-rights, records-fields}
 
 pub record Listing (first : List Gate) (kinds₀ lefts₀ rights₀ kinds lefts rights : List ℕ) (i : ℕ) : Type 0 where
@@ -46,13 +47,12 @@ module _ (first : List Gate) (kinds₀ lefts₀ rights₀ : List ℕ) where
         rights-are = fill-front (f .rights-so-far) ∙ take-map (λ g. g .right) i first;
       }
 
--- what is worked of three lists and agrees with what is said of the gate records
-pub listed-agrees : {X : Type 0} {first : List Gate} {n m : ℕ} {kinds lefts rights : List ℕ} (f : List ℕ → List ℕ → List ℕ → X) (g : List Gate → X)
-    → ((ks ls rs : List ℕ) → length ls ≡ length ks → length rs ≡ length ks → f ks ls rs ≡ g (records ks ls rs))
-    → n ≡ m → Listed first n kinds lefts rights → f (take (n - 0) kinds) (take (n - 0) lefts) (take (n - 0) rights) ≡ g (take m first)
-listed-agrees {first = first} {n = n} f g agrees e lists = rw (sub-zero, lists .kinds-are, lists .lefts-are, lists .rights-are) (fields (take n first) ∙ ap (λ k. g (take k first)) e)
+-- the circuit that is lent as the first parts of three lists is that of the gate records
+pub listed-circuit : {first : List Gate} {n m : ℕ} {kinds lefts rights : List ℕ} → n ≡ m → Listed first n kinds lefts rights
+    → asLists (take (n - 0) kinds) (take (n - 0) lefts) (take (n - 0) rights) ≡ asRecords (take m first)
+listed-circuit {first = first} {n = n} e lists = rw (sub-zero, lists .kinds-are, lists .lefts-are, lists .rights-are) (fields (take n first) ∙ ap (λ k. asRecords (take k first)) e)
   where
-    fields : (gates : List Gate) → f (kindsOf gates) (leftsOf gates) (rightsOf gates) ≡ g gates
+    fields : (gates : List Gate) → asLists (kindsOf gates) (leftsOf gates) (rightsOf gates) ≡ asRecords gates
     fields gates =
-        agrees (kindsOf gates) (leftsOf gates) (rightsOf gates) (length-lefts gates ∙ sym (length-kinds gates)) (length-rights gates ∙ sym (length-kinds gates))
-        ∙ ap g (records-fields gates)
+        lists-records (kindsOf gates) (leftsOf gates) (rightsOf gates) (length-lefts gates ∙ sym (length-kinds gates), length-rights gates ∙ sym (length-kinds gates))
+        ∙ ap asRecords (records-fields gates)

@@ -2,7 +2,7 @@
 -- found; and a run is listed whole, or so far that what is listed is too long.
 use mathlib.Core.Path.{_≡_, refl, sym, ap, _∙_}
 use mathlib.Core.Bool.{Bool, true, false, cond}
-use mathlib.Core.List.{List}
+use mathlib.Core.List.{List, _∷_}
 use Prim.Native.Nat.{ℕ, _<_}
 use native.Mathlib.Omega.{arith}
 use lib.Dec.{ltb}
@@ -10,13 +10,14 @@ use lib.IntN.{ℤ}
 use lib.ListN.{length, take}
 use lib.Seq.{take-all, length-take-le}
 use borrow.Author.Tests.{ltb-true, ltb-false}
-use Rattle.refusal.specs.declared.Params.{Params}
-use Rattle.refusal.specs.First.{firstOf, doneOr}
-use Rattle.refusal.specs.Parameters.{refused}
+use Rattle.refusal.specs.declared.Refusal.{Refusal}
+use Rattle.refusal.specs.First.{Row, row, refused, firstOf, placeOf, answerOf, someTrue, firstTrue, doneOr}
 use Rattle.scheme.specs.Calls.{badParams}
 use Rattle.circuit.specs.declared.Gate.{Gate}
-use Rattle.circuit.specs.Circuits.{badCounts, planRows, planAnswer, planBounds, evaluateRows, evaluateAnswer, evaluateWires, evaluateBounds, evaluateScratch}
-use Rattle.circuit.specs.Answers.{gates-within, place-early, answer-at}
+use Rattle.circuit.specs.Circuits.{badCounts, asRecords}
+use Rattle.circuit.specs.Plan.{PlanLoans, planLoans, planFront, planRows, planAnswer, planBounds, PlanPromise}
+use Rattle.circuit.specs.Evaluate.{EvaluateLoans, evaluateLoans, evaluateFront, evaluateRows, evaluateAnswer, evaluateWires, evaluateBounds, evaluateScratch, EvaluatePromise}
+use Rattle.circuit.specs.Answers.{gates-within}
 use Rattle.records.specs.First.{listedCount, firstGates, count-there, count-few, count-many, take-first}
 
 -- ---- a run that is too long
@@ -29,50 +30,57 @@ too-many inputs gates h = by-test (badCounts inputs gates) refl
     by-test false e = absurd (omega (arith, gates-within inputs gates e))
 
 -- the number is 1 or 2
-early-low : (t : Bool) → cond t 1 2 < 9
-early-low true = omega arith
-early-low false = omega arith
+one-or-two : (t : Bool) (rest : List Row) → answerOf (row 1 t ∷ row 2 true ∷ rest) ≡ refused (cond t 1 2) 0
+unfolding firstOf placeOf someTrue firstTrue
+one-or-two true rest = refl
+one-or-two false rest = refl
 
 early-kept : {A : Type 0} (t : Bool) (a z : A) → doneOr (cond t 1 2) a z ≡ z
 unfolding doneOr
 early-kept true a z = refl
 early-kept false a z = refl
 
-module _ (p : Params) (inputs : ℕ) (Bs : List ℕ) (gates : List Gate) (long : 4096 < length gates) where
-  plan-number : firstOf (planRows p inputs gates Bs) ≡ cond (badParams p) 1 2
-  unfolding planRows firstOf
-  plan-number = rw (too-many inputs (length gates) long)
+-- the loans of a call, of another run of gates
+abbrev planOf : PlanLoans → List Gate → PlanLoans
+planOf a gates = planLoans (a .p) (a .inputs) (asRecords gates) (a .bounds)
 
-  plan-refused : planAnswer p inputs gates Bs ≡ refused (cond (badParams p) 1 2) 0
-  unfolding planAnswer
-  plan-refused = sym (answer-at p inputs gates (take inputs Bs) plan-number (place-early p inputs gates (take inputs Bs) _ (early-low (badParams p))))
+abbrev evaluateOf : EvaluateLoans → List Gate → EvaluateLoans
+evaluateOf a gates = evaluateLoans (planOf (a .plan) gates) (a .wires) (a .key) (a .scratch)
 
-  plan-kept : planBounds p inputs gates Bs ≡ Bs
-  unfolding planBounds
-  plan-kept = rw plan-number (early-kept (badParams p) _ Bs)
+module _ (a : PlanLoans) (gates : List Gate) (long : 4096 < length gates) where
+  plan-refused : planAnswer (planOf a gates) ≡ refused (cond (badParams (a .p)) 1 2) 0
+  unfolding planAnswer planRows planFront
+  plan-refused = rw (too-many (a .inputs) (length gates) long) (one-or-two (badParams (a .p)) _)
 
-  module _ (wires W : List ℤ) where
-    evaluate-number : (scratch : ℕ) → firstOf (evaluateRows p inputs gates wires Bs W scratch) ≡ cond (badParams p) 1 2
-    unfolding evaluateRows firstOf
-    evaluate-number scratch = rw (too-many inputs (length gates) long)
+  plan-kept : planBounds (planOf a gates) ≡ a .bounds
+  unfolding planAnswer planBounds
+  plan-kept =
+      let number : firstOf (planRows (planOf a gates)) ≡ cond (badParams (a .p)) 1 2 = ap (λ (r : Refusal). r .number) plan-refused in
+      rw number (early-kept (badParams (a .p)) _ (a .bounds))
 
-    evaluate-refused : (scratch : ℕ) → evaluateAnswer p inputs gates wires Bs W scratch ≡ refused (cond (badParams p) 1 2) 0
-    unfolding evaluateAnswer
-    evaluate-refused scratch =
-        sym (answer-at p inputs gates (take inputs Bs) (evaluate-number scratch) (place-early p inputs gates (take inputs Bs) _ (early-low (badParams p))))
+module _ (a : EvaluateLoans) (gates : List Gate) (long : 4096 < length gates) where
+  abbrev bad : Bool
+  bad = badParams (a .plan .p)
 
-    module _ (scratch : List ℤ) where
-      wires-kept : evaluateWires p inputs gates wires Bs W scratch ≡ wires
-      unfolding evaluateWires
-      wires-kept = rw (evaluate-number (length scratch)) (early-kept (badParams p) _ wires)
+  evaluate-refused : evaluateAnswer (evaluateOf a gates) ≡ refused (cond bad 1 2) 0
+  unfolding evaluateAnswer evaluateRows evaluateFront
+  evaluate-refused = rw (too-many (a .plan .inputs) (length gates) long) (one-or-two bad _)
 
-      bounds-kept : evaluateBounds p inputs gates wires Bs W scratch ≡ Bs
-      unfolding evaluateBounds
-      bounds-kept = rw (evaluate-number (length scratch)) (early-kept (badParams p) _ Bs)
+  number : firstOf (evaluateRows (evaluateOf a gates)) ≡ cond bad 1 2
+  unfolding evaluateAnswer
+  number = ap (λ (r : Refusal). r .number) evaluate-refused
 
-      scratch-kept : evaluateScratch p inputs gates wires Bs W scratch ≡ scratch
-      unfolding evaluateScratch
-      scratch-kept = rw (evaluate-number (length scratch)) (early-kept (badParams p) _ scratch)
+  wires-kept : evaluateWires (evaluateOf a gates) ≡ a .wires
+  unfolding evaluateWires
+  wires-kept = rw number (early-kept bad _ (a .wires))
+
+  bounds-kept : evaluateBounds (evaluateOf a gates) ≡ a .plan .bounds
+  unfolding evaluateBounds
+  bounds-kept = rw number (early-kept bad _ (a .plan .bounds))
+
+  scratch-kept : evaluateScratch (evaluateOf a gates) ≡ a .scratch
+  unfolding evaluateScratch
+  scratch-kept = rw number (early-kept bad _ (a .scratch))
 
 -- ---- what is listed
 
@@ -90,26 +98,24 @@ enough {X} f z same gates = ap f (take-first gates) ∙ by-test (ltb (length gat
         same (take (listedCount n) gates) (omega (arith, length-take-le (listedCount n) gates (count-there n), count-many n (ltb-false n 4097 e)))
         ∙ sym (same gates (omega (arith, ltb-false n 4097 e)))
 
-module _ (p : Params) (inputs : ℕ) (gates : List Gate) (Bs : List ℕ) where
+module _ (gates : List Gate) where
   abbrev listed : List Gate
   listed = take (listedCount (length gates)) (firstGates gates)
 
-  pub plan-answer-enough : planAnswer p inputs listed Bs ≡ planAnswer p inputs gates Bs
-  plan-answer-enough = enough (λ gs. planAnswer p inputs gs Bs) _ (plan-refused p inputs Bs) gates
+  -- **what is promised of the gates that are listed is promised of the run**
+  pub plan-enough : (a : PlanLoans) {r : Refusal} {bounds : List ℕ} → PlanPromise (planOf a listed) r bounds → PlanPromise (planOf a gates) r bounds
+  plan-enough a e =
+      record {
+        answer = e .answer ∙ enough (λ gs. planAnswer (planOf a gs)) _ (plan-refused a) gates;
+        bounds-left = e .bounds-left ∙ enough (λ gs. planBounds (planOf a gs)) _ (plan-kept a) gates;
+      }
 
-  pub plan-bounds-enough : planBounds p inputs listed Bs ≡ planBounds p inputs gates Bs
-  plan-bounds-enough = enough (λ gs. planBounds p inputs gs Bs) _ (plan-kept p inputs Bs) gates
-
-  module _ (wires W : List ℤ) where
-    pub evaluate-answer-enough : (scratch : ℕ) → evaluateAnswer p inputs listed wires Bs W scratch ≡ evaluateAnswer p inputs gates wires Bs W scratch
-    evaluate-answer-enough scratch = enough (λ gs. evaluateAnswer p inputs gs wires Bs W scratch) _ (λ gs h. evaluate-refused p inputs Bs gs h wires W scratch) gates
-
-    module _ (scratch : List ℤ) where
-      pub evaluate-wires-enough : evaluateWires p inputs listed wires Bs W scratch ≡ evaluateWires p inputs gates wires Bs W scratch
-      evaluate-wires-enough = enough (λ gs. evaluateWires p inputs gs wires Bs W scratch) _ (λ gs h. wires-kept p inputs Bs gs h wires W scratch) gates
-
-      pub evaluate-bounds-enough : evaluateBounds p inputs listed wires Bs W scratch ≡ evaluateBounds p inputs gates wires Bs W scratch
-      evaluate-bounds-enough = enough (λ gs. evaluateBounds p inputs gs wires Bs W scratch) _ (λ gs h. bounds-kept p inputs Bs gs h wires W scratch) gates
-
-      pub evaluate-scratch-enough : evaluateScratch p inputs listed wires Bs W scratch ≡ evaluateScratch p inputs gates wires Bs W scratch
-      evaluate-scratch-enough = enough (λ gs. evaluateScratch p inputs gs wires Bs W scratch) _ (λ gs h. scratch-kept p inputs Bs gs h wires W scratch) gates
+  pub evaluate-enough : (a : EvaluateLoans) {r : Refusal} {wires : List ℤ} {bounds : List ℕ} {scratch : List ℤ}
+      → EvaluatePromise (evaluateOf a listed) r wires bounds scratch → EvaluatePromise (evaluateOf a gates) r wires bounds scratch
+  evaluate-enough a e =
+      record {
+        answer = e .answer ∙ enough (λ gs. evaluateAnswer (evaluateOf a gs)) _ (evaluate-refused a) gates;
+        wires-left = e .wires-left ∙ enough (λ gs. evaluateWires (evaluateOf a gs)) _ (wires-kept a) gates;
+        bounds-left = e .bounds-left ∙ enough (λ gs. evaluateBounds (evaluateOf a gs)) _ (bounds-kept a) gates;
+        scratch-left = e .scratch-left ∙ enough (λ gs. evaluateScratch (evaluateOf a gs)) _ (scratch-kept a) gates;
+      }

@@ -11,7 +11,7 @@ use lib.ListN.{length, getD, set, take, drop, replicate, length-map, length-repl
 use lib.Seq.{take-at, length-take-le, length-front, paste-suc}
 use borrow.Author.Tests.{ltb-true, ltb-false, lt-ltb, le-ltb}
 use Rattle.circuit.specs.declared.Gate.{Gate}
-use Rattle.circuit.specs.Core.{gate, records}
+use Rattle.circuit.specs.Circuits.{gate, records}
 
 -- ---- the gates that are listed
 

@@ -1,8 +1,9 @@
 // Circuits lent as gate records: the front of an array is lent to the engine's calls over a slice of gates.
-ghost use mathlib.Core.Path.{_≡_};
 ghost use Prim.Native.Nat.{_≤_};
-ghost use lib.ListN.{length, take};
-ghost use Rattle.circuit.specs.Circuits.{planAnswer, planBounds, evaluateAnswer, evaluateWires, evaluateBounds, evaluateScratch};
+ghost use lib.ListN.{take};
+ghost use Rattle.circuit.specs.Circuits.{asRecords};
+ghost use Rattle.circuit.specs.Plan.{planLoans, PlanPromise};
+ghost use Rattle.circuit.specs.Evaluate.{evaluateLoans, EvaluatePromise};
 use calls::read::WIRES;
 use circuit::Gate;
 use refusal::Params;
@@ -17,8 +18,7 @@ pub fn plan(
     bounds: &mut [u32],
 ) -> Refusal
     requires { ⌜ count ≤ 5200 ⌝ }
-    ensures { λ r. ⌜ r ≡ planAnswer p inputs (take count gates) (now (bounds .entry)) ⌝ }
-    ensures { λ r. ⌜ now (bounds .exit) ≡ planBounds p inputs (take count gates) (now (bounds .entry)) ⌝ }
+    ensures { λ r. ⌜ PlanPromise (planLoans p inputs (asRecords (take count gates)) (now (bounds .entry))) r (now (bounds .exit)) ⌝ }
 {
     records::plan::plan_gates(p, inputs, &gates[..count], bounds)
 }
@@ -35,10 +35,7 @@ pub fn evaluate(
     scratch: &mut [i64],
 ) -> Refusal
     requires { ⌜ count ≤ 5200 ⌝ }
-    ensures { λ r. ⌜ r ≡ evaluateAnswer p inputs (take count gates) (now (wires .entry)) (now (bounds .entry)) (now (key .entry)) (length (now (scratch .entry))) ⌝ }
-    ensures { λ r. ⌜ now (wires .exit) ≡ evaluateWires p inputs (take count gates) (now (wires .entry)) (now (bounds .entry)) (now (key .entry)) (now (scratch .entry)) ⌝ }
-    ensures { λ r. ⌜ now (bounds .exit) ≡ evaluateBounds p inputs (take count gates) (now (wires .entry)) (now (bounds .entry)) (now (key .entry)) (now (scratch .entry)) ⌝ }
-    ensures { λ r. ⌜ now (scratch .exit) ≡ evaluateScratch p inputs (take count gates) (now (wires .entry)) (now (bounds .entry)) (now (key .entry)) (now (scratch .entry)) ⌝ }
+    ensures { λ r. ⌜ EvaluatePromise (evaluateLoans (planLoans p inputs (asRecords (take count gates)) (now (bounds .entry))) (now (wires .entry)) (now (key .entry)) (now (scratch .entry))) r (now (wires .exit)) (now (bounds .exit)) (now (scratch .exit)) ⌝ }
 {
     records::evaluate::evaluate_gates(p, inputs, &gates[..count], wires, bounds, key, scratch)
 }

@@ -1,25 +1,23 @@
 // Working the gates of a circuit that nothing refuses: each gate's own stretch of the wires is lent to XOR, AND or NOT.
 ghost use mathlib.Core.Path.{_≡_};
-ghost use mathlib.Core.Bool.{true, false};
 ghost use mathlib.Core.List.{_++_, flatten};
-ghost use Prim.Native.Nat.{_+_, _*_, _≤_, _<_};
-ghost use lib.ListN.{length, take, drop};
-ghost use Rattle.whole.specs.Lists.{every, cut};
-ghost use Rattle.refusal.specs.Parameters.{InRange};
-ghost use Rattle.scheme.specs.Arithmetic.{isResidue, XOR, NOT, AND};
-ghost use Rattle.modular.specs.Loans.{Modulus};
-ghost use Rattle.circuit.specs.Circuits.{byKind, wrongGate, gateWire, wiresOf};
-ghost use Rattle.circuit.specs.Core.{gate, records};
-ghost use Rattle.working.specs.Ready.{EvaluateReady};
+ghost use Prim.Native.Nat.{_+_, _*_};
+ghost use lib.IntN.{pos};
+ghost use lib.ListN.{take, drop, replicate};
+ghost use Rattle.whole.specs.Lists.{cut};
+ghost use Rattle.scheme.specs.Arithmetic.{XOR, NOT, AND};
+ghost use Rattle.circuit.specs.Circuits.{gate, byKind, gateWire, wiresOf, records};
+ghost use Rattle.working.specs.Ready.{EvaluateReady, RoomReady, GateReady, WireReady};
 use gates::and_into;
 use gates::not_into;
 use gates::xor_into;
 use modular::buffer::copy;
+use modular::buffer::zero;
 use refusal::Params;
 
 // What a gate makes of its operands c and d, into the stretch of its own wire; NOT takes c alone.
 fn make_wire(
-    q: u32,
+    p: Params,
     kind: u32,
     c: &[i64],
     d: &[i64],
@@ -27,9 +25,10 @@ fn make_wire(
     scratch: &mut [i64],
     out: &mut [i64],
 )
-    requires { ⌜ Modulus q × (0 < length (now out)) × (length (now out) ≤ 1024) × (length (now c) ≡ length (now out)) × (length (now d) ≡ length (now out)) × (length (now scratch) ≡ length (now out) * length (now out)) × (length (now key) ≡ length (now out) * (length (now out) * length (now out))) × (every (isResidue q) (now c) ≡ true) × (every (isResidue q) (now d) ≡ true) × (every (isResidue (q * q)) (now key) ≡ true) ⌝ }
-    ensures { λ r. ⌜ now (out .exit) ≡ byKind kind (XOR q (now (c .entry)) (now (d .entry))) (AND (length (now (out .entry))) q (now (key .entry)) (now (c .entry)) (now (d .entry))) (NOT q (now (c .entry))) ⌝ }
+    requires { ⌜ WireReady p (now c) (now d) (now key) (now scratch) (now out) ⌝ }
+    ensures { λ r. ⌜ now (out .exit) ≡ byKind kind (XOR (p .q) (now (c .entry)) (now (d .entry))) (AND (p .n) (p .q) (now (key .entry)) (now (c .entry)) (now (d .entry))) (NOT (p .q) (now (c .entry))) ⌝ }
 {
+    let q = p.q;
     if kind == 0 {
         xor_into(q, c, d, out);
         return;
@@ -54,7 +53,7 @@ fn work_gate(
     d: &mut [i64],
     scratch: &mut [i64],
 )
-    requires { ⌜ InRange p × (own * p .n + p .n ≤ length (now wires)) × (wrongGate own (gate kind left right) ≡ false) × (length (now c) ≡ p .n) × (length (now d) ≡ p .n) × (length (now scratch) ≡ p .n * p .n) × (every (isResidue (p .q)) (take (own * p .n) (now wires)) ≡ true) × (length (now key) ≡ p .n * (p .n * p .n)) × (every (isResidue (p .q * p .q)) (now key) ≡ true) ⌝ }
+    requires { ⌜ GateReady p (gate kind left right) own (now wires) (now key) (now c) (now d) (now scratch) ⌝ }
     ensures { λ r. ⌜ now (wires .exit) ≡ take (own * p .n) (now (wires .entry)) ++ (gateWire p (now (key .entry)) (gate kind left right) (cut (p .n) own (now (wires .entry))) ++ drop (own * p .n + p .n) (now (wires .entry))) ⌝ }
 {
     let n = p.n as usize;
@@ -63,7 +62,7 @@ fn work_gate(
     let at = own * n;
     copy(&wires[a..a + n], c);
     copy(&wires[b..b + n], d);
-    make_wire(p.q, kind, c, d, key, scratch, &mut wires[at..at + n]);
+    make_wire(p, kind, c, d, key, scratch, &mut wires[at..at + n]);
 }
 
 // Works all gates, one wire after the other; c and d take the operands of each.
@@ -79,7 +78,7 @@ fn work_gates(
     d: &mut [i64],
     scratch: &mut [i64],
 )
-    requires { ⌜ EvaluateReady p inputs (now kinds) (now lefts) (now rights) (now wires) (now key) (length (now scratch)) × (length (now c) ≡ p .n) × (length (now d) ≡ p .n) ⌝ }
+    requires { ⌜ EvaluateReady p inputs (now kinds) (now lefts) (now rights) (now wires) (now key) (now scratch) × RoomReady p (now c) (now d) ⌝ }
     ensures { λ r. ⌜ now (wires .exit) ≡ flatten (wiresOf p (now (key .entry)) (records (now (kinds .entry)) (now (lefts .entry)) (now (rights .entry))) (cut (p .n) inputs (now (wires .entry)))) ⌝ }
 {
     let mut own = inputs;
@@ -102,7 +101,7 @@ fn work_gates(
     }
 }
 
-// Works all gates, with room for the operands of a gate that is made once.
+// Works all gates, with room for the operands of a gate that is made once, and zeros the scratch.
 pub fn work(
     p: Params,
     inputs: usize,
@@ -113,8 +112,9 @@ pub fn work(
     key: &[i64],
     scratch: &mut [i64],
 )
-    requires { ⌜ EvaluateReady p inputs (now kinds) (now lefts) (now rights) (now wires) (now key) (length (now scratch)) ⌝ }
+    requires { ⌜ EvaluateReady p inputs (now kinds) (now lefts) (now rights) (now wires) (now key) (now scratch) ⌝ }
     ensures { λ r. ⌜ now (wires .exit) ≡ flatten (wiresOf p (now (key .entry)) (records (now (kinds .entry)) (now (lefts .entry)) (now (rights .entry))) (cut (p .n) inputs (now (wires .entry)))) ⌝ }
+    ensures { λ r. ⌜ now (scratch .exit) ≡ replicate (p .n * p .n) (pos 0) ⌝ }
 {
     let n = p.n as usize;
     let mut c = [0i64; 1024];
@@ -131,4 +131,5 @@ pub fn work(
         &mut d[0..n],
         scratch,
     );
+    zero(scratch);
 }

@@ -8,8 +8,7 @@ use native.Mathlib.Omega.{arith}
 use lib.ListN.{length, getD}
 use borrow.Author.Needs.{needs}
 use Rattle.refusal.specs.First.{firstTrue, first-past, first-here, first-within}
-use Rattle.circuit.specs.Circuits.{wrongGates}
-use Rattle.circuit.specs.Core.{records}
+use Rattle.circuit.specs.Circuits.{wrongGates, records}
 use Rattle.circuit.specs.Records.{length-records, length-wrongGates, getD-wrong-records}
 use Rattle.checks.proofs.first_wrong.Statement.{statement}
 use Rattle.checks.proofs.first_wrong.Tie as tie
@@ -33,7 +32,7 @@ abbrev tests : tie.Start Inv-loop μ-loop → List Bool
 tests s = wrongGates (s .args .inputs) (records (s .args .kinds .now) (s .args .lefts .now) (s .args .rights .now))
 
 many : (s : tie.Start Inv-loop μ-loop) → length (tests s) ≡ length (s .args .kinds .now)
-many s = length-wrongGates _ _ ∙ length-records _ _ _ (s .pre .2) (s .pre .3)
+many s = length-wrongGates _ _ ∙ length-records _ _ _ (s .pre .lefts-long) (s .pre .rights-long)
 
 abbrev start : tie.After-is-wrong Inv-loop μ-loop → tie.Start Inv-loop μ-loop
 start c = c .before .before .before .before .before .before .before .before .before
@@ -42,7 +41,7 @@ tested : (c : tie.After-is-wrong Inv-loop μ-loop) → getD (tests (start c)) (c
 tested c =
     let l = c .before .before .before .before .before .loop in
     let s = start c in
-    getD-wrong-records (s .args .inputs) (s .args .kinds .now) (s .args .lefts .now) (s .args .rights .now) (l .g) (s .pre .2) (s .pre .3) (omega arith)
+    getD-wrong-records (s .args .inputs) (s .args .kinds .now) (s .args .lefts .now) (s .args .rights .now) (l .g) (s .pre .lefts-long) (s .pre .rights-long) (omega arith)
     ∙ rw (← l .inv .wire) (sym (c .is-wrong .ensures))
 
 returns : tie.Need-returns Inv-loop μ-loop

@@ -6,8 +6,7 @@ use native.Mathlib.Omega.{arith}
 use lib.Dec.{eqb, leb, ltb}
 use borrow.Author.Tests.{ltb-true, ltb-false, leb-true, leb-false, lt-leb, le-leb, lt-ltb, le-ltb, ne-eqb}
 use Rattle.whole.specs.Tests.{not-ltb}
-use Rattle.circuit.specs.Circuits.{byKind, wrongGate}
-use Rattle.circuit.specs.Core.{gate}
+use Rattle.circuit.specs.Circuits.{gate, byKind, wrongGate}
 use Rattle.checks.proofs.is_wrong.Statement.{statement}
 use Rattle.checks.proofs.is_wrong.Tie as tie
 

@@ -11,7 +11,7 @@ use Rattle.planning.proofs.gate_bound.Tie as tie
 
 returns : tie.Need-returns
 unfolding byKind
-returns c = (simp (c .if1 .taken, XOR-bound-is), omega (arith, c .before .pre .0 .q-high))
+returns c = (simp (c .if1 .taken, XOR-bound-is), omega (arith, c .before .pre .range .q-high))
 
 returns-2 : tie.Need-returns-2
 unfolding byKind
@@ -20,7 +20,7 @@ returns-2 c = (simp (c .before .if2 .taken) (c .and-bound .ensures .0), c .and-b
 returns-3 : tie.Need-returns-3
 returns-3 c =
     let a = c .before .before in
-    (sym (NOT-bound-is (a .args .b1)) ∙ sym (kind-neither (a .args .kind) _ _ _ (c .before .if1 .left) (c .if2 .left)), omega (arith, a .pre .0 .q-high))
+    (sym (NOT-bound-is (a .args .b1)) ∙ sym (kind-neither (a .args .kind) _ _ _ (c .before .if1 .left) (c .if2 .left)), omega (arith, a .pre .range .q-high))
 
 pub gate-bound-spec : {M : Type 1} → statement M
 gate-bound-spec = tie.close (tie.spec (λ c. search needs) returns (λ c κs. search needs) returns-2 returns-3)

@@ -1,78 +1,75 @@
--- `plan::plan_number` gives the number of the first of the rows 1, 2, 3 and 8 of planning that applies: each return by the tests before it.
-use mathlib.Core.Path.{_≡_, sym}
-use mathlib.Core.Bool.{not, _||_}
-use Prim.Native.Nat.{ℕ, _+_}
+-- `plan::plan_number` gives the number of the first row of planning that applies of those before the gates', each return by what the tests and `row` ensure.
+use mathlib.Core.Path.{_≡_, sym, _∙_}
+use mathlib.Core.Bool.{false, _||_}
+use Prim.Native.Nat.{_+_}
 use native.Mathlib.Nat.{sub-zero}
 use native.Mathlib.Omega.{arith}
-use lib.Dec.{eqb}
 use lib.ListN.{length}
-use borrow.Author.Tests.{eqb-true, not-false}
 use borrow.Author.Needs.{needs}
 use Rattle.whole.specs.Tests.{or-right}
 use Rattle.refusal.specs.First.{first-row, first-none}
-use Rattle.scheme.specs.Passed.{params-is, differs-is}
-use Rattle.circuit.specs.Core.{uneven, planCoreRows}
+use Rattle.scheme.specs.Calls.{badParams, differs}
+use Rattle.scheme.specs.Passed.{params-tested, differs-is, length-is}
+use Rattle.circuit.specs.Circuits.{badCounts, asLists, unevenLists}
+use Rattle.circuit.specs.Plan.{PlanLoans, planLoans, wireCount, planFront}
 use Rattle.planning.proofs.plan_number.Statement.{statement}
 use Rattle.planning.proofs.plan_number.Tie as tie
 
+abbrev loans : tie.Start → PlanLoans
+loans s = let a = s .args in planLoans (a .p) (a .inputs) (asLists (a .kinds .now) (a .lefts .now) (a .rights .now)) (a .bounds .now)
+
 returns : tie.Need-returns
-unfolding planCoreRows
-returns c = simp (first-row, params-is, sym (c .before .in-range .ensures), c .if1 .taken)
+unfolding planFront
+returns c = simp (first-row, params-tested _ (c .before .in-range .ensures) (c .if1 .taken))
+
+-- ---- past 1
+
+abbrev start : tie.Else1 → tie.Start
+start c = c .before .before .before .before .before .before
+
+one-passed : (c : tie.Else1) → badParams (loans (start c) .p) ≡ false
+one-passed c = params-tested _ (c .before .in-range .ensures) (c .if1 .left)
 
 returns-2 : tie.Need-returns-2
-unfolding planCoreRows
-returns-2 c =
-    let e = c .before .before in
-    simp (first-row, params-is, sym (e .before .in-range .ensures), e .if1 .left, sym (c .before .are-bad-counts .ensures), c .if2 .taken)
+unfolding planFront
+returns-2 c = simp (first-row, one-passed (c .before .before), sym (c .before .are-bad-counts .ensures), c .if2 .taken)
+
+-- ---- past 2
+
+abbrev first : tie.Else2 → tie.Else1
+first c = c .before .before
+
+two-passed : (c : tie.Else2) → (let a = loans (start (first c)) in badCounts (a .inputs) (a .circuit .count) ≡ false)
+two-passed c = sym (c .before .are-bad-counts .ensures) ∙ c .if2 .left
 
 returns-3 : tie.Need-returns-3
-unfolding planCoreRows uneven
-returns-3 c =
-    let b = c .before .before in
-    let e = b .before in
-    simp (
-      first-row,
-      params-is,
-      sym (e .before .in-range .ensures),
-      e .if1 .left,
-      sym (b .are-bad-counts .ensures),
-      c .before .if2 .left,
-      differs-is,
-      c .if3 .taken,
-    )
+unfolding planFront unevenLists
+returns-3 c = simp (first-row, one-passed (first (c .before)), two-passed (c .before), differs-is, c .if3 .taken)
 
-abbrev start : tie.Else3 → tie.Start
-start c = c .before .before .before .before .before .before .before .before .before
+-- ---- past 3
 
--- past row 3 the bounds have room for the inputs and the gates
-long : (c : tie.Else3) → (let a = start c .args in length (a .bounds .now) ≡ a .inputs + length (a .kinds .now))
-long c =
-    let a = start c .args in
-    let k : ℕ = length (a .kinds .now) in
-    eqb-true _ _
-    (not-false _ (or-right (not (eqb (length (a .lefts .now)) k) || not (eqb (length (a .rights .now)) k)) (not (eqb (length (a .bounds .now)) (a .inputs + k))) (c .if3 .left)))
+three-passed : (c : tie.Else3) → (let a = loans (start (first (c .before))) in (a .circuit .uneven || differs (length (a .bounds)) (wireCount a)) ≡ false)
+unfolding unevenLists
+three-passed c = simp (differs-is, c .if3 .left)
 
 part-is-some-over-end : tie.Need-part-is-some-over-end
-part-is-some-over-end c = omega (arith, long c)
+part-is-some-over-end c =
+    let a = loans (start (first (c .before))) in
+    let long : length (a .bounds) ≡ wireCount a = length-is _ _ (or-right (a .circuit .uneven) _ (three-passed c)) in
+    omega (arith, long)
 
 returns-4 : tie.Need-returns-4
-unfolding planCoreRows uneven
+unfolding planFront
 returns-4 c =
-    let l = c .before .before .before in
-    let b = l .before .before in
-    let e = b .before in
+    let e = c .before .before .before in
     simp (
       first-row,
       first-none,
       c .row .ensures,
       c .before .is-some-over .ensures,
-      params-is,
-      sym (e .before .in-range .ensures),
-      e .if1 .left,
-      sym (b .are-bad-counts .ensures),
-      l .before .if2 .left,
-      differs-is,
-      l .if3 .left,
+      one-passed (first (e .before)),
+      two-passed (e .before),
+      three-passed e,
       sub-zero,
     )
 

@@ -1,27 +1,26 @@
 -- `working::work_gate` writes what the gate makes over its own wire and leaves the others as found. A gate that is not wrong has its operands before its own
--- wire (`Below`), so that they are ciphertexts (`Operand`), and the wire that begins at j·n is row j of the buffer (`getD-cut`). Leans on what `copy` and
--- `make_wire` ensure.
-use mathlib.Core.Path.{_≡_, sym, ap, _∙_}
-use mathlib.Core.List.{List, [], _++_}
-use Prim.Native.Nat.{ℕ, _+_, _*_, _-_, _≤_}
+-- wire (`Below`), so that they are ciphertexts (`Operand`), and what is made of them is its wire (`made`). Leans on what `copy` and `make_wire` ensure.
+use mathlib.Core.Path.{_≡_, ap, _∙_}
+use mathlib.Core.List.{List, _++_}
+use Prim.Native.Nat.{_+_, _*_, _-_, _≤_}
 use native.Mathlib.Omega.{arith}
 use lib.IntN.{ℤ}
 use lib.ListN.{length, take, drop}
 use borrow.Author.Needs.{needs}
-use Rattle.whole.specs.Lists.{cut, getD-cut, row-ends}
-use Rattle.scheme.specs.Arithmetic.{XOR, NOT, AND}
-use Rattle.keys.specs.Moduli.{params-modulus}
-use Rattle.circuit.specs.Circuits.{byKind}
-use Rattle.circuit.specs.Core.{gate}
+use Rattle.whole.specs.Lists.{row-ends}
+use Rattle.circuit.specs.declared.Gate.{Gate}
+use Rattle.circuit.specs.Circuits.{gate}
 use Rattle.circuit.specs.Records.{Below, gate-below}
-use Rattle.circuit.specs.Wires.{gate-makes}
-use Rattle.working.proofs.Stretch.{Operand, operand, part-long, part-written}
+use Rattle.working.proofs.Stretch.{Operand, operand, made, part-long, part-written}
 use Rattle.working.proofs.work_gate.Statement.{statement}
 use Rattle.working.proofs.work_gate.Tie as tie
 
--- the operands' wires end at or before the gate's own begins
-below : (s : tie.Start) → Below (s .args .own) (gate (s .args .kind) (s .args .left) (s .args .right))
-below s = gate-below (s .args .own) (gate (s .args .kind) (s .args .left) (s .args .right)) (s .pre .2)
+-- the gate that is worked, whose operands' wires end at or before its own begins
+abbrev worked : tie.Start → Gate
+worked s = gate (s .args .kind) (s .args .left) (s .args .right)
+
+below : (s : tie.Start) → Below (s .args .own) (worked s)
+below s = gate-below (s .args .own) (worked s) (s .pre .gate-right)
 
 left-ends : (s : tie.Start) → s .args .left * s .args .p .n + s .args .p .n ≤ s .args .own * s .args .p .n
 left-ends s = row-ends (s .args .p .n) (s .args .own) (s .args .left) (below s .left-below)
@@ -36,22 +35,22 @@ mul-b : tie.Need-mul-b
 mul-b c = omega (arith, right-ends (c .before))
 
 add-copy : tie.Need-add-copy
-add-copy c = let s = c .before in omega (arith, left-ends s, s .pre .1, s .good .1 .1 .1 .1 .1 .0 .0)
+add-copy c = let s = c .before in omega (arith, left-ends s, s .pre .own-inside, s .good .1 .1 .1 .1 .1 .0 .0)
 
 mul-copy : tie.Need-mul-copy
-mul-copy c = let s = c .before in omega (arith, left-ends s, s .pre .1, s .good .1 .1 .1 .1 .1 .0 .0)
+mul-copy c = let s = c .before in omega (arith, left-ends s, s .pre .own-inside, s .good .1 .1 .1 .1 .1 .0 .0)
 
 part-copy-end : tie.Need-part-copy-end
-part-copy-end c = let s = c .before .before in omega (arith, left-ends s, s .pre .1)
+part-copy-end c = let s = c .before .before in omega (arith, left-ends s, s .pre .own-inside)
 
 add-copy-2 : tie.Need-add-copy-2
-add-copy-2 c = let s = c .before .before .before .before .before .before in omega (arith, right-ends s, s .pre .1, s .good .1 .1 .1 .1 .1 .0 .0)
+add-copy-2 c = let s = c .before .before .before .before .before .before in omega (arith, right-ends s, s .pre .own-inside, s .good .1 .1 .1 .1 .1 .0 .0)
 
 mul-copy-2 : tie.Need-mul-copy-2
-mul-copy-2 c = let s = c .before .before .before .before .before .before in omega (arith, right-ends s, s .pre .1, s .good .1 .1 .1 .1 .1 .0 .0)
+mul-copy-2 c = let s = c .before .before .before .before .before .before in omega (arith, right-ends s, s .pre .own-inside, s .good .1 .1 .1 .1 .1 .0 .0)
 
 part-copy-end-2 : tie.Need-part-copy-end-2
-part-copy-end-2 c = let s = c .before .before .before .before .before .before .before in omega (arith, right-ends s, s .pre .1)
+part-copy-end-2 c = let s = c .before .before .before .before .before .before .before in omega (arith, right-ends s, s .pre .own-inside)
 
 -- ---- the operands are copied
 
@@ -61,32 +60,22 @@ start c = c .before .before .before .before .before .before .before .before .bef
 first : (c : tie.After-copy2) → (let s = start c .args in Operand (s .p) (s .left * s .p .n) (s .wires .now) (c .before .before .before .before .before .copy .last .1 .0))
 first c =
     let s = start c in
-    operand (s .args .p) (s .args .left * s .args .p .n) (s .args .own * s .args .p .n) (s .args .wires .now) (c .before .before .before .before .before .copy .ensures) (left-ends s) (s .pre .1) (s .pre .6)
+    operand (s .args .p) (s .args .left * s .args .p .n) (s .args .own * s .args .p .n) (s .args .wires .now) (c .before .before .before .before .before .copy .ensures) (left-ends s) (s .pre .own-inside) (s .pre .inside)
 
 second : (c : tie.After-copy2) → (let s = start c .args in Operand (s .p) (s .right * s .p .n) (s .wires .now) (c .copy2 .last .1 .0))
 second c =
     let s = start c in
-    operand (s .args .p) (s .args .right * s .args .p .n) (s .args .own * s .args .p .n) (s .args .wires .now) (c .copy2 .ensures) (right-ends s) (s .pre .1) (s .pre .6)
+    operand (s .args .p) (s .args .right * s .args .p .n) (s .args .own * s .args .p .n) (s .args .wires .now) (c .copy2 .ensures) (right-ends s) (s .pre .own-inside) (s .pre .inside)
 
 -- the stretch that is lent has n entries
 room : (s : tie.Start) → (let a = s .args in length (take (a .own * a .p .n + a .p .n - a .own * a .p .n) (drop (a .own * a .p .n) (a .wires .now))) ≡ a .p .n)
-room s = part-long (s .args .own * s .args .p .n) (s .args .p .n) (s .args .wires .now) (s .pre .1)
+room s = part-long (s .args .own * s .args .p .n) (s .args .p .n) (s .args .wires .now) (s .pre .own-inside)
 
 make-wire-requires : tie.Need-make-wire-requires
 make-wire-requires c κs =
     let d = c .before .before .before .before .before in
-    let s = start d in (
-      params-modulus (s .pre .0),
-      omega (arith, room s, s .pre .0 .n-low),
-      omega (arith, room s, s .pre .0 .n-high),
-      first d .long ∙ sym (room s),
-      second d .long ∙ sym (room s),
-      s .pre .5 ∙ ap (λ (k : ℕ). k * k) (sym (room s)),
-      s .pre .7 ∙ ap (λ (k : ℕ). k * (k * k)) (sym (room s)),
-      first d .inside,
-      second d .inside,
-      s .pre .8,
-    )
+    let s = start d in
+    record { key = s .pre .key; left = first d .wire; right = second d .wire; out-long = room s }
 
 returns : tie.Need-returns
 returns c =
@@ -95,15 +84,9 @@ returns c =
     let a = s .args in
     let n = a .p .n in
     let at = a .own * n in
-    let x = d .before .before .before .before .before .copy .last .1 .0 in
-    let y = d .copy2 .last .1 .0 in
     part-written at n (a .wires .now) (c .before .before .make-wire .last .1 .1 .1 .1 .1 .1 .0)
     ∙ ap (λ (w : List ℤ). take at (a .wires .now) ++ (w ++ drop (at + n) (a .wires .now)))
-    (c .before .before .make-wire .ensures
-    ∙ ap (λ (k : ℕ). byKind (a .kind) (XOR (a .p .q) x y) (AND k (a .p .q) (a .key .now) x y) (NOT (a .p .q) x)) (room s)
-    ∙ gate-makes (a .p) (a .key .now) (a .kind) (a .left) (a .right) (cut n (a .own) (a .wires .now))
-    (first d .is ∙ sym (getD-cut n (a .own) (a .wires .now) (a .left) [] (below s .left-below)))
-    (second d .is ∙ sym (getD-cut n (a .own) (a .wires .now) (a .right) [] (below s .right-below))))
+    (made (a .p) (a .key .now) (worked s) (a .own) (a .wires .now) (below s) (first d) (second d) (c .before .before .make-wire .ensures))
 
 pub work-gate-spec : {M : Type 1} → statement M
 work-gate-spec =

@@ -1,58 +1,67 @@
--- `number::evaluate_number` gives the number of the first of evaluation's rows 1, 2, 3 and 6 that applies, each return by what the tests and `row` ensure.
--- Past 2 the counts are small, so that no product wraps, and past 3 the inputs' wires lie within the buffer.
-use mathlib.Core.Path.{_≡_, sym, ap, ap₂, _∙_}
-use mathlib.Core.Bool.{Bool, false, cond, _||_}
-use mathlib.Core.List.{[], _∷_}
+-- `number::evaluate_number` gives the number of the first row of evaluation that applies of those before planning's, each return by what the tests and `row`
+-- ensure. Past 2 the counts are small, so that no product wraps, and past 3 the inputs' wires lie within the buffer.
+use mathlib.Core.Path.{_≡_, sym, ap, _∙_}
+use mathlib.Core.Bool.{Bool, false, not, _||_}
 use Prim.Native.Nat.{ℕ, _+_, _*_, _≤_}
 use native.Mathlib.Nat.{mul-le-mul, mul-le-mul-right, sub-zero}
 use native.Mathlib.Omega.{arith}
 use lib.ListN.{length, take}
 use borrow.Author.Needs.{needs}
 use Rattle.whole.specs.Tests.{or-left, or-right}
-use Rattle.refusal.specs.First.{first-last, first-row, first-rest, row}
 use Rattle.refusal.specs.Parameters.{InRange}
 use Rattle.scheme.specs.Calls.{badParams, differs, outside}
-use Rattle.scheme.specs.Passed.{params-tested, answered-range, length-is}
-use Rattle.keys.specs.Moduli.{params-modulus}
-use Rattle.circuit.specs.Circuits.{badCounts}
-use Rattle.circuit.specs.Core.{uneven, evaluateCoreRows}
+use Rattle.scheme.specs.Passed.{length-is}
+use Rattle.keys.specs.Chain.{params-modulus, answered-range, given, stops, passes, asks, none, either}
+use Rattle.circuit.specs.Circuits.{badCounts, asLists, unevenLists}
+use Rattle.circuit.specs.Plan.{planLoans, wireCount}
+use Rattle.circuit.specs.Evaluate.{EvaluateLoans, evaluateLoans, evaluateFront}
 use Rattle.circuit.specs.Answers.{inputs-within, gates-within}
 use Rattle.evaluation.proofs.number.evaluate_number.Statement.{statement}
 use Rattle.evaluation.proofs.number.evaluate_number.Tie as tie
 
-returns : tie.Need-returns
-unfolding evaluateCoreRows
-returns c = simp (first-row, params-tested _ (c .before .in-range .ensures) (c .if1 .taken))
+abbrev loans : tie.Start → EvaluateLoans
+loans s =
+    let a = s .args in
+    evaluateLoans (planLoans (a .p) (a .inputs) (asLists (a .kinds .now) (a .lefts .now) (a .rights .now)) (a .bounds .now)) (a .wires .now) (a .key .now) (a .scratch .now)
 
 -- ---- past 1
 
-range : (c : tie.Else1) → InRange (c .before .before .before .before .before .before .args .p)
+abbrev start : tie.After-in-range → tie.Start
+start c = c .before .before .before .before .before
+
+returns : tie.Need-returns
+unfolding evaluateFront badParams
+returns c = given (evaluateFront (loans (start (c .before)))) (stops (ap not (c .before .in-range .ensures)) (c .if1 .taken))
+
+range : (c : tie.Else1) → InRange (start (c .before) .args .p)
 range c = answered-range _ (c .before .in-range .ensures) (c .if1 .left)
 
-one-passed : (c : tie.Else1) → badParams (c .before .before .before .before .before .before .args .p) ≡ false
-one-passed c = params-tested _ (c .before .in-range .ensures) (c .if1 .left)
-
 returns-2 : tie.Need-returns-2
-unfolding evaluateCoreRows
-returns-2 c = simp (first-row, one-passed (c .before .before), sym (c .before .are-bad-counts .ensures), c .if2 .taken)
+unfolding evaluateFront badParams
+returns-2 c =
+    let a = c .before .before in
+    given (evaluateFront (loans (start (a .before)))) (passes (ap not (a .before .in-range .ensures)) (a .if1 .left) (stops (c .before .are-bad-counts .ensures) (c .if2 .taken)))
 
 -- ---- past 2
 
-abbrev start : tie.Else2 → tie.Start
-start c = c .before .before .before .before .before .before .before .before
+abbrev ranged : tie.Else2 → tie.Else1
+ranged c = c .before .before
 
-two-passed : (c : tie.Else2) → (let s = start c .args in badCounts (s .inputs) (length (s .kinds .now)) ≡ false)
-two-passed c = sym (c .before .are-bad-counts .ensures) ∙ c .if2 .left
+abbrev lent : tie.Else2 → EvaluateLoans
+lent c = loans (start (ranged c .before))
+
+counts : (c : tie.Else2) → (let l = lent c .plan in badCounts (l .inputs) (l .circuit .count) ≡ false)
+counts c = sym (c .before .are-bad-counts .ensures) ∙ c .if2 .left
 
 -- so that no product wraps
-total-fits : (c : tie.Else2) → (let s = start c .args in (s .inputs + length (s .kinds .now)) * s .p .n ≤ 5242880)
+total-fits : (c : tie.Else2) → (let l = lent c .plan in wireCount l * l .p .n ≤ 5242880)
 total-fits c =
-    let s = start c .args in
-    let few : s .inputs + length (s .kinds .now) ≤ 5120 = omega (arith, inputs-within (s .inputs) _ (two-passed c), gates-within (s .inputs) _ (two-passed c)) in
-    mul-le-mul few (range (c .before .before) .n-high)
+    let l = lent c .plan in
+    let few : wireCount l ≤ 5120 = omega (arith, inputs-within (l .inputs) _ (counts c), gates-within (l .inputs) _ (counts c)) in
+    mul-le-mul few (range (ranged c) .n-high)
 
-square-fits : (c : tie.Else2) → (let s = start c .args in s .p .n * s .p .n ≤ 1048576)
-square-fits c = let r = range (c .before .before) in mul-le-mul (r .n-high) (r .n-high)
+square-fits : (c : tie.Else2) → (let p = lent c .plan .p in p .n * p .n ≤ 1048576)
+square-fits c = let r = range (ranged c) in mul-le-mul (r .n-high) (r .n-high)
 
 mul-square : tie.Need-mul-square
 mul-square c = omega (arith, square-fits (c .before))
@@ -63,37 +72,53 @@ mul-length-differs c = omega (arith, total-fits (c .before .before .before))
 mul-length-differs-2 : tie.Need-mul-length-differs-2
 mul-length-differs-2 c =
     let e = c .before .before .before .before .before in
-    omega (arith, mul-le-mul (range (e .before .before) .n-high) (square-fits e))
+    omega (arith, mul-le-mul (range (ranged e) .n-high) (square-fits e))
+
+abbrev counted : tie.After-length-differs6 → tie.Else2
+counted d = d .before .before .before .before .before .before .before
+
+-- 3: the lengths that are compared
+lengths : (d : tie.After-length-differs6)
+    → (let e = d .before in
+    let k = e .before in
+    let b = k .before in
+    let w = b .before in
+    let r = w .before in
+    let a = lent (counted d) in
+    let l = a .plan in
+    let n = l .p .n in
+    (r .length-differs .result || w .length-differs2 .result || b .length-differs3 .result || k .length-differs4 .result || e .length-differs5 .result || d .length-differs6 .result)
+    ≡ (l .circuit .uneven
+    || differs (length (a .wires)) (wireCount l * n)
+    || differs (length (l .bounds)) (wireCount l)
+    || differs (length (a .key)) (n * (n * n))
+    || differs (length (a .scratch)) (n * n)))
+unfolding unevenLists
+lengths d =
+    let e = d .before in
+    let k = e .before in
+    let b = k .before in
+    let w = b .before in
+    either (either (either (either (either (w .before .length-differs .ensures) (w .length-differs2 .ensures)) (b .length-differs3 .ensures)) (k .length-differs4 .ensures)) (e .length-differs5 .ensures)) (d .length-differs6 .ensures)
 
 returns-3 : tie.Need-returns-3
-unfolding evaluateCoreRows uneven
+unfolding evaluateFront badParams
 returns-3 c =
-    let d = c .before in
-    let e = d .before .before .before .before .before .before .before in
-    simp (
-      first-row,
-      one-passed (e .before .before),
-      two-passed e,
-      sym (d .before .before .before .before .before .length-differs .ensures),
-      sym (d .before .before .before .before .length-differs2 .ensures),
-      sym (d .before .before .before .length-differs3 .ensures),
-      sym (d .before .before .length-differs4 .ensures),
-      sym (d .before .length-differs5 .ensures),
-      sym (d .length-differs6 .ensures),
-      c .if3 .taken,
-    )
+    let e = counted (c .before) in
+    let a = ranged e in
+    given (evaluateFront (lent e))
+    (passes (ap not (a .before .in-range .ensures)) (a .if1 .left)
+    (passes (e .before .are-bad-counts .ensures) (e .if2 .left)
+    (stops (lengths (c .before)) (c .if3 .taken))))
 
--- ---- past 3
+-- ---- past 3: the inputs' wires lie within the buffer
 
-abbrev counted : tie.Else3 → tie.Else2
-counted c = c .before .before .before .before .before .before .before .before
-
--- the inputs' wires lie within the buffer
-inputs-inside : (c : tie.Else3) → (let s = start (counted c) .args in s .inputs * s .p .n ≤ length (s .wires .now))
+inputs-inside : (c : tie.Else3) → (let a = lent (counted (c .before)) in a .plan .inputs * a .plan .p .n ≤ length (a .wires))
 inputs-inside c =
-    let s = start (counted c) .args in
-    let long : length (s .wires .now) ≡ (s .inputs + length (s .kinds .now)) * s .p .n = length-is _ _ (sym (c .before .before .before .before .length-differs3 .ensures) ∙ search (or-left, or-right, c .if3 .left) depth 10) in
-    rw long (mul-le-mul-right (s .p .n) (omega arith))
+    let a = lent (counted (c .before)) in
+    let l = a .plan in
+    let long : length (a .wires) ≡ wireCount l * l .p .n = length-is _ _ (search (or-left, or-right, sym (lengths (c .before)) ∙ c .if3 .left) depth 10) in
+    rw long (mul-le-mul-right (l .p .n) (omega arith))
 
 mul-is-outside : tie.Need-mul-is-outside
 mul-is-outside c = omega (arith, inputs-inside c)
@@ -102,45 +127,23 @@ part-is-outside-end : tie.Need-part-is-outside-end
 part-is-outside-end c = omega (arith, inputs-inside c)
 
 is-outside-requires : tie.Need-is-outside-requires
-is-outside-requires c κs = params-modulus (range (counted (c .before) .before .before))
+is-outside-requires c κs = params-modulus (range (ranged (counted (c .before .before))))
 
 is-outside-big-requires : tie.Need-is-outside-big-requires
-is-outside-big-requires c κs = params-modulus (range (counted (c .before .before) .before .before))
-
-sixth : (c : tie.After-is-outside) → (let s = start (counted (c .before .before)) .args in c .is-outside .result ≡ outside (s .p .q) (take (s .inputs * s .p .n) (s .wires .now)))
-sixth c = let s = start (counted (c .before .before)) .args in c .is-outside .ensures ∙ ap (λ (k : ℕ). outside (s .p .q) (take k (s .wires .now))) (sub-zero (s .inputs * s .p .n))
-
-three-passed : (c : tie.Else3)
-    → (let s = start (counted c) .args in
-    (uneven (s .kinds .now) (s .lefts .now) (s .rights .now)
-    || differs (length (s .wires .now)) ((s .inputs + length (s .kinds .now)) * s .p .n)
-    || differs (length (s .bounds .now)) (s .inputs + length (s .kinds .now))
-    || differs (length (s .key .now)) (s .p .n * (s .p .n * s .p .n))
-    || differs (s .scratch) (s .p .n * s .p .n))
-    ≡ false)
-unfolding uneven
-three-passed c =
-    let d = c .before in
-    simp (
-      sym (d .before .before .before .before .before .length-differs .ensures),
-      sym (d .before .before .before .before .length-differs2 .ensures),
-      sym (d .before .before .before .length-differs3 .ensures),
-      sym (d .before .before .length-differs4 .ensures),
-      sym (d .before .length-differs5 .ensures),
-      sym (d .length-differs6 .ensures),
-      c .if3 .left,
-    )
+is-outside-big-requires c κs = params-modulus (range (ranged (counted (c .before .before .before))))
 
 returns-4 : tie.Need-returns-4
-unfolding evaluateCoreRows
+unfolding evaluateFront badParams
 returns-4 c =
     let o = c .before in
     let t = o .before .before .before in
-    let e = counted t in
-    c .row .ensures
-    ∙ ap (λ (b : Bool). cond b 6 0) (ap₂ _||_ (sixth (o .before)) (o .is-outside-big .ensures))
-    ∙ sym (first-last 6 _)
-    ∙ sym (first-rest (row 1 _ ∷ row 2 _ ∷ row 3 _ ∷ []) (row 6 _ ∷ []) (one-passed (e .before .before), (two-passed e, (three-passed t, tt))))
+    let e = counted (t .before) in
+    let a = ranged e in
+    given (evaluateFront (lent e))
+    (passes (ap not (a .before .in-range .ensures)) (a .if1 .left)
+    (passes (e .before .are-bad-counts .ensures) (e .if2 .left)
+    (passes (lengths (t .before)) (t .if3 .left)
+    (asks (c .row .ensures) (either (rw sub-zero at (o .before .is-outside .ensures)) (o .is-outside-big .ensures)) none))))
 
 pub evaluate-number-spec : {M : Type 1} → statement M
 evaluate-number-spec =

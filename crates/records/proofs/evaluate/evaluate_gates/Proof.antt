@@ -37,7 +37,7 @@ use denote.Triple.Entry.{Args, Vals, onEntry}
 use denote.Triple.Spec.{Meets, tripleOf}
 use denote.Triple.Table.{entered, cited}
 use denote.Triple.Clauses.{Lasts, ensured, lasts}
-use denote.Triple.Walked.{Stays, stay-none, stay-none-slice, gave-slice, walkOf, goes-none, goes-none-slice, goes-gave-slice, Walks, ends-at, walked, walk-meets}
+use denote.Triple.Walked.{Stays, stay-none, stay-none-slice, gave-slice, walkOf, goes-none, goes-none-slice, goes-gave-slice, Walks, ends-at, says, walked, walk-meets}
 use denote.Exit.{yes}
 use Rattle.refusal.specs.declared.Params.{Params}
 use Rattle.refusal.specs.declared.Refusal.{Refusal}
@@ -46,20 +46,21 @@ use Rattle.refusal.proofs.Params.Laws as P′
 use Rattle.refusal.proofs.Refusal as R
 use Rattle.refusal.proofs.Refusal.Laws as R′
 use Rattle.circuit.specs.declared.Gate.{Gate}
-use Rattle.circuit.specs.Circuits.{evaluateAnswer, evaluateWires, evaluateBounds, evaluateScratch}
+use Rattle.circuit.specs.Circuits.{asRecords}
+use Rattle.circuit.specs.Plan.{planLoans}
+use Rattle.circuit.specs.Evaluate.{EvaluateLoans, evaluateLoans, EvaluatePromise}
 use Rattle.circuit.proofs.Gate as G
 use Rattle.records.specs.First.{listedCount, firstGates}
-use Rattle.records.specs.Enough.{evaluate-answer-enough, evaluate-wires-enough, evaluate-bounds-enough, evaluate-scratch-enough}
+use Rattle.records.specs.Enough.{evaluate-enough}
 use Rattle.records.proofs.Calling.{slice, Gates, First, calls-first}
-use Rattle.records.proofs.Facts.{says4}
 use Rattle.records.proofs.Gates.{Arr, array-typed}
 use Rattle.records.proofs.first.first_gates.Symbol as first-def
 use Rattle.records.proofs.first.first_gates.Symbol.{name as #first}
 use Rattle.records.proofs.first.first_gates.Met as first-thm
-use Rattle.records.proofs.evaluate.evaluate_first as work
-use Rattle.records.proofs.evaluate.evaluate_first.Symbol as work-def
-use Rattle.records.proofs.evaluate.evaluate_first.Symbol.{name as #work}
-use Rattle.records.proofs.evaluate.evaluate_first.Met as work-thm
+use Rattle.records.proofs.lists.evaluate_first as work
+use Rattle.records.proofs.lists.evaluate_first.Symbol as work-def
+use Rattle.records.proofs.lists.evaluate_first.Symbol.{name as #work}
+use Rattle.records.proofs.lists.evaluate_first.Met as work-thm
 use Rattle.records.proofs.evaluate.evaluate_gates.Key.{name as #evaluate}
 use Rattle.records.proofs.evaluate.evaluate_gates as eval
 use Rattle.records.proofs.evaluate.evaluate_gates.Statement as stated
@@ -141,17 +142,11 @@ module _ {M : Type 1} (𝓤 : URA M) (H : Heap 𝓤) (A : Atoms 𝓤) (W : Given
       move ! (0 ∷ 2 ∷ []) $ fjoin ! $ move ! (2 ∷ 0 ∷ []) $ fjoin ! $ move ! (2 ∷ 0 ∷ []) $ fjoin ! $ frame ! $ done !
 
   -- what evaluation of the gates gs answers and leaves
-  abbrev Answers : List Gate → Refusal → Type 0
-  Answers gs t = t ≡ evaluateAnswer p inputs gs (wires .now) (bounds .now) (key .now) (length (scratch .now))
+  abbrev loans : List Gate → EvaluateLoans
+  loans gs = evaluateLoans (planLoans p inputs (asRecords gs) (bounds .now)) (wires .now) (key .now) (scratch .now)
 
-  abbrev Wires : List Gate → List ℤ → Type 0
-  Wires gs zs = zs ≡ evaluateWires p inputs gs (wires .now) (bounds .now) (key .now) (scratch .now)
-
-  abbrev Bounds : List Gate → List ℕ → Type 0
-  Bounds gs zs = zs ≡ evaluateBounds p inputs gs (wires .now) (bounds .now) (key .now) (scratch .now)
-
-  abbrev Scratch : List Gate → List ℤ → Type 0
-  Scratch gs zs = zs ≡ evaluateScratch p inputs gs (wires .now) (bounds .now) (key .now) (scratch .now)
+  abbrev Promised : List Gate → Refusal → List ℤ → List ℕ → List ℤ → Type 0
+  Promised gs = EvaluatePromise (loans gs)
 
   -- the call of `evaluate_first`, at the array with the machine value u
   abbrev passed : Args work.signature κs
@@ -167,15 +162,15 @@ module _ {M : Type 1} (𝓤 : URA M) (H : Heap 𝓤) (A : Atoms 𝓤) (W : Given
       owned ! u32 (Is u32) (uint-makes 𝓤 H A W w32) inputs _ (refl, inputs-fit) $ fjoin ! $ owned ! P.the-row (Is P.the-row) (LL.makes P.the-type P′.the-plain 𝓤 H A) p _ p-is $ fjoin ! $
       move ! (1 ∷ 0 ∷ []) $ join ! $ frame ! $ done !
 
-  exits : (r : Refusal) (u : Val) (ws : List ℤ) (bs : List ℕ) (ss : List ℤ) → Answers (x .now) r → Wires (x .now) ws → Bounds (x .now) bs → Scratch (x .now) ss
+  exits : (r : Refusal) (u : Val) (ws : List ℤ) (bs : List ℕ) (ss : List ℤ) → Promised (x .now) r ws bs ss
       → length ws ≡ length (wires .now) → length bs ≡ length (bounds .now) → length ss ≡ length (scratch .now)
       → ent 𝓤 (⋆ 𝓤 H A (‵ (R.the-row .own r (u ∷ [])) ∷ Alive ∷ ‵ (finally i64 (scratch .name) ss) ∷ ‵ (finally u32 (bounds .name) bs) ∷ ‵ (finally i64 (wires .name) ws) ∷ (‵ (flft κ q)
       ⊛ ‵ ftrue) ∷ ‵ (Gates κ x) ∷ ‵ Key ∷ [])) (Post u)
-  exits r u ws bs ss e₁ e₂ e₃ e₄ lw lb ls =
+  exits r u ws bs ss e lw lb ls =
       qed W (‵ (R.the-row .own r (u ∷ [])) ∷ Alive ∷ ‵ (finally i64 (scratch .name) ss) ∷ ‵ (finally u32 (bounds .name) bs) ∷ ‵ (finally i64 (wires .name) ws) ∷ (‵ (flft κ q) ⊛ ‵ ftrue)
       ∷ ‵ (Gates κ x) ∷ ‵ Key ∷ []) ∵
       suffices ! _ (ends-at 𝓤 H A eval.ended stayed (eval.clauses 𝓤 H A mem run) W bound u r (tt, (tt, (tt, (ws, (bs, (tt, (ss, tt))))))) (tt, (tt, (tt, (lw, (lb, (tt, (ls, tt)))))))) $
-      says4 ! e₁ e₂ e₃ e₄ $
+      says ! e $
       move ! (5 ∷ []) $ split ! $ move ! (1 ∷ []) $ drop ! $ move ! (0 ∷ 2 ∷ []) $ join ! $ frame ! $
       -- [the result; the last scratch, bounds and wires; what the gates and the key own]
       nothing ! $ move ! (2 ∷ 0 ∷ []) $ fjoin ! $ move ! (5 ∷ 0 ∷ []) $ fjoin ! $ move ! (2 ∷ 0 ∷ []) $ fjoin ! $ move ! (2 ∷ 0 ∷ []) $ fjoin ! $ move ! (2 ∷ 0 ∷ []) $ fjoin ! $
@@ -223,12 +218,8 @@ module _ {M : Type 1} (𝓤 : URA M) (H : Heap 𝓤) (A : Atoms 𝓤) (W : Given
         await ! tt $ pick ! (λ t.
         split ! $ move ! (1 ∷ []) $
         use1 W (some (λ (zs : Lasts work.ended κs passed). ‵ (lasts work.ended κs passed zs)
-        ⊛ raw (fact 𝓤 (Answers listed t)) ⊛ raw (fact 𝓤 (Wires listed (zs .1 .1 .1 .1 .0)))
-        ⊛ raw (fact 𝓤 (Bounds listed (zs .1 .1 .1 .1 .1 .0))) ⊛ raw (fact 𝓤 (Scratch listed (zs .1 .1 .1 .1 .1 .1 .1 .0))))) (id⊢ 𝓤 _) $ pick ! (λ zs.
-        split ! $ move ! (1 ∷ []) $ split ! $ heard ! (Answers listed t) (λ e₁.
-        split ! $ heard ! (Wires listed (zs .1 .1 .1 .1 .0)) (λ e₂.
-        split ! $ heard ! (Bounds listed (zs .1 .1 .1 .1 .1 .0)) (λ e₃.
-        heard ! (Scratch listed (zs .1 .1 .1 .1 .1 .1 .1 .0)) (λ e₄.
+        ⊛ raw (fact 𝓤 (Promised listed t (zs .1 .1 .1 .1 .0) (zs .1 .1 .1 .1 .1 .0) (zs .1 .1 .1 .1 .1 .1 .1 .0))))) (id⊢ 𝓤 _) $ pick ! (λ zs.
+        split ! $ move ! (1 ∷ []) $ heard ! (Promised listed t (zs .1 .1 .1 .1 .0) (zs .1 .1 .1 .1 .1 .0) (zs .1 .1 .1 .1 .1 .1 .1 .0)) (λ e.
         fsplit ! $ drop ! $ fsplit ! $ drop ! $ fsplit ! $ drop ! $ fsplit ! $ drop ! $ fsplit ! $ fsplit ! $ move ! (1 ∷ []) $ feqL ! (λ lw. move ! (1 ∷ []) $ fsplit ! $ fsplit ! $
         move ! (1 ∷ []) $ feqL ! (λ lb.
         move ! (1 ∷ []) $ fsplit ! $ drop ! $ fsplit ! $ fsplit ! $ move ! (1 ∷ []) $ feqL ! (λ ls. move ! (1 ∷ []) $ drop ! $ move ! (3 ∷ []) $ split ! $ move ! (1 ∷ []) $
@@ -240,11 +231,7 @@ module _ {M : Type 1} (𝓤 : URA M) (H : Heap 𝓤) (A : Atoms 𝓤) (W : Given
         keep ! (38 ∷ 39 ∷ 36 ∷ 37 ∷ 34 ∷ 35 ∷ 32 ∷ 33 ∷ 30 ∷ 31 ∷ 28 ∷ 29 ∷ 26 ∷ 27 ∷ 24 ∷ 25 ∷ 22 ∷ 23 ∷ 20 ∷ 21 ∷ 18 ∷ 19 ∷ 16 ∷ 17 ∷ 14 ∷ 15 ∷ 12 ∷ 13 ∷ 10 ∷ 11 ∷ 8 ∷ 9 ∷ 0 ∷ 1 ∷ 2 ∷ 3
         ∷ 4 ∷ 5 ∷ 6 ∷ 7 ∷ []) $
         free1 ! $ free1 ! $ free1 ! $ free1 ! $ free1 ! $ free1 ! $ free1 ! $ free1 ! $ free1 ! $ free1 ! $ free1 ! $ free1 ! $ free1 ! $ free1 ! $ free1 ! $ free1 ! $ free0 ! $
-        by ! (exits t u′ (zs .1 .1 .1 .1 .0) (zs .1 .1 .1 .1 .1 .0) (zs .1 .1 .1 .1 .1 .1 .1 .0) (e₁ ∙ evaluate-answer-enough p inputs (x .now) (bounds .now)
-        (wires .now) (key .now) (length (scratch .now)))
-        (e₂ ∙ evaluate-wires-enough p inputs (x .now) (bounds .now) (wires .now) (key .now) (scratch .now)) (e₃ ∙ evaluate-bounds-enough p inputs (x .now) (bounds .now)
-        (wires .now) (key .now) (scratch .now))
-        (e₄ ∙ evaluate-scratch-enough p inputs (x .now) (bounds .now) (wires .now) (key .now) (scratch .now)) lw lb ls)))))))))))))))))))))))))))))
+        by ! (exits t u′ (zs .1 .1 .1 .1 .0) (zs .1 .1 .1 .1 .1 .0) (zs .1 .1 .1 .1 .1 .1 .1 .0) (evaluate-enough (x .now) (loans (x .now)) e) lw lb ls))))))))))))))))))))))))))
 
 module _ {M : Type 1} (𝓤 : URA M) (H : Heap 𝓤) (A : Atoms 𝓤) (W : Given 𝓤 H A) (mem : Memory → SProp 𝓤) (run : Routine → Fun 𝓤) (𝓣 : Tables 𝓤 H)
     (known-first : Triple 𝓤 (𝓣 .C #first) (First 𝓤 H A mem run)) (known-work : Triple 𝓤 (𝓣 .C #work) (Work 𝓤 H A mem run)) where
@@ -291,4 +278,4 @@ evaluate-gates-spec 𝓤 H 𝓜 𝓖 𝓡 =
     (tables 𝓤 H 𝓜 𝓡 code.env .C) (tables 𝓤 H 𝓜 𝓡 code.env .Λ) #evaluate code.function (code.unfolded 𝓤 H 𝓜 𝓡)
     (evaluate-meets 𝓤 H (𝓖 .A) (givenOf 𝓤 H 𝓜 𝓖) (𝓜 .mem) (𝓡 .run) (tablesOf 𝓤 H 𝓜 (tables 𝓤 H 𝓜 𝓡 code.env))
     (cited 𝓤 H (First 𝓤 H (𝓖 .A) (𝓜 .mem) (𝓡 .run)) 𝓜 𝓡 code.env #first first-def.routine code.calls-records·first·first-gates (first-thm.met 𝓤 H 𝓜 𝓖 𝓡))
-    (cited 𝓤 H (Work 𝓤 H (𝓖 .A) (𝓜 .mem) (𝓡 .run)) 𝓜 𝓡 code.env #work work-def.routine code.calls-records·evaluate·evaluate-first (work-thm.met 𝓤 H 𝓜 𝓖 𝓡)))
+    (cited 𝓤 H (Work 𝓤 H (𝓖 .A) (𝓜 .mem) (𝓡 .run)) 𝓜 𝓡 code.env #work work-def.routine code.calls-records·lists·evaluate-first (work-thm.met 𝓤 H 𝓜 𝓖 𝓡)))

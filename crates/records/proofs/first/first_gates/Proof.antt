@@ -48,7 +48,7 @@ use denote.Triple.Clauses.{ensured, lasts}
 use denote.Triple.Walked.{says, Stays, stay-none-slice, walkOf, goes-none-slice, Walks, ends-at, walked, walk-meets}
 use denote.Exit.{yes}
 use Rattle.circuit.specs.declared.Gate.{Gate}
-use Rattle.circuit.specs.Core.{gate}
+use Rattle.circuit.specs.Circuits.{gate}
 use Rattle.circuit.proofs.Gate as G
 use Rattle.circuit.proofs.Gate.Laws as G′
 use Rattle.records.specs.First.{listedCount, noGates, firstGates, listedTo, count-there, count-most, listed-start, listed-end, length-listed, listed-next}

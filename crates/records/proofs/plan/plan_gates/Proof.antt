@@ -1,7 +1,7 @@
 -- `plan::plan_gates` meets its contract: a walk of its MIR, by hand. The gates are lent to `first_gates` and kept, since a `&` is Copy; the bounds go on to
 -- `plan_first` for good. All that the proof knows of the two is that each meets its contract.
 -- Assumes nothing.
-use mathlib.Core.Path.{_≡_, refl, _∙_}
+use mathlib.Core.Path.{_≡_, refl}
 use Prim.Native.Nat.{ℕ, _<_, _^_}
 use mathlib.Core.List.{List, [], _∷_}
 use lib.ListN.{length, take}
@@ -35,7 +35,7 @@ use denote.Triple.Entry.{Args, Vals, onEntry}
 use denote.Triple.Spec.{Meets, tripleOf}
 use denote.Triple.Table.{entered, cited}
 use denote.Triple.Clauses.{Lasts, ensured, lasts}
-use denote.Triple.Walked.{Stays, stay-none, stay-none-slice, gave-slice, walkOf, goes-none, goes-none-slice, goes-gave-slice, Walks, ends-at, walked, walk-meets}
+use denote.Triple.Walked.{Stays, stay-none, stay-none-slice, gave-slice, walkOf, goes-none, goes-none-slice, goes-gave-slice, Walks, ends-at, says, walked, walk-meets}
 use denote.Exit.{yes}
 use Rattle.refusal.specs.declared.Params.{Params}
 use Rattle.refusal.specs.declared.Refusal.{Refusal}
@@ -44,20 +44,20 @@ use Rattle.refusal.proofs.Params.Laws as P′
 use Rattle.refusal.proofs.Refusal as R
 use Rattle.refusal.proofs.Refusal.Laws as R′
 use Rattle.circuit.specs.declared.Gate.{Gate}
-use Rattle.circuit.specs.Circuits.{planAnswer, planBounds}
+use Rattle.circuit.specs.Circuits.{asRecords}
+use Rattle.circuit.specs.Plan.{PlanLoans, planLoans, PlanPromise}
 use Rattle.circuit.proofs.Gate as G
 use Rattle.records.specs.First.{listedCount, firstGates}
-use Rattle.records.specs.Enough.{plan-answer-enough, plan-bounds-enough}
+use Rattle.records.specs.Enough.{plan-enough}
 use Rattle.records.proofs.Calling.{slice, Gates, First, calls-first}
-use Rattle.records.proofs.Facts.{says2}
 use Rattle.records.proofs.Gates.{Arr, array-typed}
 use Rattle.records.proofs.first.first_gates.Symbol as first-def
 use Rattle.records.proofs.first.first_gates.Symbol.{name as #first}
 use Rattle.records.proofs.first.first_gates.Met as first-thm
-use Rattle.records.proofs.plan.plan_first as work
-use Rattle.records.proofs.plan.plan_first.Symbol as work-def
-use Rattle.records.proofs.plan.plan_first.Symbol.{name as #work}
-use Rattle.records.proofs.plan.plan_first.Met as work-thm
+use Rattle.records.proofs.lists.plan_first as work
+use Rattle.records.proofs.lists.plan_first.Symbol as work-def
+use Rattle.records.proofs.lists.plan_first.Symbol.{name as #work}
+use Rattle.records.proofs.lists.plan_first.Met as work-thm
 use Rattle.records.proofs.plan.plan_gates.Key.{name as #plan}
 use Rattle.records.proofs.plan.plan_gates as plan
 use Rattle.records.proofs.plan.plan_gates.Statement as stated
@@ -78,6 +78,9 @@ module _ {M : Type 1} (𝓤 : URA M) (H : Heap 𝓤) (A : Atoms 𝓤) (W : Given
 
   abbrev listed : List Gate
   listed = take (listedCount n) (firstGates (x .now))
+
+  abbrev loans : List Gate → PlanLoans
+  loans gates = planLoans p inputs (asRecords gates) (y .now)
 
   abbrev w : Val
   w = sliceVal (y .ptr) (length (y .now))
@@ -115,11 +118,11 @@ module _ {M : Type 1} (𝓤 : URA M) (H : Heap 𝓤) (A : Atoms 𝓤) (W : Given
       owned ! u32 (Is u32) (uint-makes 𝓤 H A W w32) inputs _ (refl, inputs-fit) $ fjoin ! $ owned ! P.the-row (Is P.the-row) (LL.makes P.the-type P′.the-plain 𝓤 H A) p _ p-is $ fjoin ! $
       move ! (1 ∷ 0 ∷ []) $ join ! $ frame ! $ done !
 
-  exits : (r : Refusal) (u : Val) (zs : List ℕ) → r ≡ planAnswer p inputs (x .now) (y .now) → zs ≡ planBounds p inputs (x .now) (y .now) → length zs ≡ length (y .now)
+  exits : (r : Refusal) (u : Val) (zs : List ℕ) → PlanPromise (loans (x .now)) r zs → length zs ≡ length (y .now)
       → ent 𝓤 (⋆ 𝓤 H A (‵ (R.the-row .own r (u ∷ [])) ∷ (‵ (flft κ′ q′) ⊛ ‵ ftrue) ∷ ‵ (finally u32 (y .name) zs) ∷ (‵ (flft κ q) ⊛ ‵ ftrue) ∷ ‵ (Gates κ x) ∷ [])) (Post u)
-  exits r u zs e₁ e₂ l =
+  exits r u zs e l =
       qed W (‵ (R.the-row .own r (u ∷ [])) ∷ (‵ (flft κ′ q′) ⊛ ‵ ftrue) ∷ ‵ (finally u32 (y .name) zs) ∷ (‵ (flft κ q) ⊛ ‵ ftrue) ∷ ‵ (Gates κ x) ∷ []) ∵
-      suffices ! _ (ends-at 𝓤 H A plan.ended stayed (plan.clauses 𝓤 H A mem run) W bound u r (tt, (tt, (tt, (zs, tt)))) (tt, (tt, (tt, (l, tt))))) $ says2 ! e₁ e₂ $
+      suffices ! _ (ends-at 𝓤 H A plan.ended stayed (plan.clauses 𝓤 H A mem run) W bound u r (tt, (tt, (tt, (zs, tt)))) (tt, (tt, (tt, (l, tt))))) $ says ! e $
       move ! (3 ∷ []) $ split ! $ move ! (1 ∷ []) $ drop ! $ move ! (0 ∷ 2 ∷ []) $ join ! $ frame ! $
       -- [the result; the last bounds; what the gates own]
       nothing ! $ move ! (2 ∷ 0 ∷ []) $ fjoin ! $ move ! (2 ∷ 0 ∷ []) $ fjoin ! $ owned ! u32 (Is u32) (uint-makes 𝓤 H A W w32) inputs _ (refl, inputs-fit) $ fjoin ! $
@@ -154,9 +157,8 @@ module _ {M : Type 1} (𝓤 : URA M) (H : Heap 𝓤) (A : Atoms 𝓤) (W : Given
         (ensured 𝓤 H A work.ended (work.clauses 𝓤 H A mem run) (κ′, tt) passed tt t)))) (id⊢ 𝓤 _) $ await ! tt $ pick ! (λ t.
         split ! $ move ! (1 ∷ []) $
         use1 W (some (λ (zs : Lasts work.ended (κ′, tt) passed). ‵ (lasts work.ended (κ′, tt) passed zs)
-        ⊛ raw (fact 𝓤 (t ≡ planAnswer p inputs listed (y .now))) ⊛ raw (fact 𝓤 (zs .1 .1 .1 .1 .0 ≡ planBounds p inputs listed (y .now))))) (id⊢ 𝓤 _) $ pick ! (λ zs.
-        split ! $ move ! (1 ∷ []) $ split ! $ heard ! (t ≡ planAnswer p inputs listed (y .now)) (λ e₁.
-        heard ! (zs .1 .1 .1 .1 .0 ≡ planBounds p inputs listed (y .now)) (λ e₂.
+        ⊛ raw (fact 𝓤 (PlanPromise (loans listed) t (zs .1 .1 .1 .1 .0))))) (id⊢ 𝓤 _) $ pick ! (λ zs.
+        split ! $ move ! (1 ∷ []) $ heard ! (PlanPromise (loans listed) t (zs .1 .1 .1 .1 .0)) (λ e.
         fsplit ! $ drop ! $ fsplit ! $ drop ! $ fsplit ! $ drop ! $ fsplit ! $ drop ! $ fsplit ! $ fsplit ! $ move ! (1 ∷ []) $ feqL ! (λ l. move ! (1 ∷ []) $ drop ! $ move ! (1 ∷ []) $
         split ! $ move ! (1 ∷ []) $
         -- [the result; the token of the bounds; the last bounds; the token of the gates; what the gates own; _8; …; room for _0; …]
@@ -166,7 +168,7 @@ module _ {M : Type 1} (𝓤 : URA M) (H : Heap 𝓤) (A : Atoms 𝓤) (W : Given
         forget ! 21 refl $
         keep ! (21 ∷ 22 ∷ 19 ∷ 20 ∷ 17 ∷ 18 ∷ 15 ∷ 16 ∷ 13 ∷ 14 ∷ 11 ∷ 12 ∷ 9 ∷ 10 ∷ 7 ∷ 8 ∷ 5 ∷ 6 ∷ 0 ∷ 1 ∷ 2 ∷ 3 ∷ 4 ∷ []) $
         free1 ! $ free1 ! $ free1 ! $ free1 ! $ free1 ! $ free1 ! $ free1 ! $ free1 ! $ free1 ! $ free0 ! $
-        by ! (exits t u′ (zs .1 .1 .1 .1 .0) (e₁ ∙ plan-answer-enough p inputs (x .now) (y .now)) (e₂ ∙ plan-bounds-enough p inputs (x .now) (y .now)) l))))))))))))))))))
+        by ! (exits t u′ (zs .1 .1 .1 .1 .0) (plan-enough (x .now) (loans (x .now)) e) l)))))))))))))))))
 
 module _ {M : Type 1} (𝓤 : URA M) (H : Heap 𝓤) (A : Atoms 𝓤) (W : Given 𝓤 H A) (mem : Memory → SProp 𝓤) (run : Routine → Fun 𝓤) (𝓣 : Tables 𝓤 H)
     (known-first : Triple 𝓤 (𝓣 .C #first) (First 𝓤 H A mem run)) (known-work : Triple 𝓤 (𝓣 .C #work) (Work 𝓤 H A mem run)) where
@@ -197,4 +199,4 @@ plan-gates-spec 𝓤 H 𝓜 𝓖 𝓡 =
     (tables 𝓤 H 𝓜 𝓡 code.env .C) (tables 𝓤 H 𝓜 𝓡 code.env .Λ) #plan code.function (code.unfolded 𝓤 H 𝓜 𝓡)
     (plan-meets 𝓤 H (𝓖 .A) (givenOf 𝓤 H 𝓜 𝓖) (𝓜 .mem) (𝓡 .run) (tablesOf 𝓤 H 𝓜 (tables 𝓤 H 𝓜 𝓡 code.env))
     (cited 𝓤 H (First 𝓤 H (𝓖 .A) (𝓜 .mem) (𝓡 .run)) 𝓜 𝓡 code.env #first first-def.routine code.calls-records·first·first-gates (first-thm.met 𝓤 H 𝓜 𝓖 𝓡))
-    (cited 𝓤 H (Work 𝓤 H (𝓖 .A) (𝓜 .mem) (𝓡 .run)) 𝓜 𝓡 code.env #work work-def.routine code.calls-records·plan·plan-first (work-thm.met 𝓤 H 𝓜 𝓖 𝓡)))
+    (cited 𝓤 H (Work 𝓤 H (𝓖 .A) (𝓜 .mem) (𝓡 .run)) 𝓜 𝓡 code.env #work work-def.routine code.calls-records·lists·plan-first (work-thm.met 𝓤 H 𝓜 𝓖 𝓡)))

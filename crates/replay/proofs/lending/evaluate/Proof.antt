@@ -40,7 +40,7 @@ use denote.Triple.Entry.{Args, Vals, onEntry}
 use denote.Triple.Spec.{Meets, tripleOf}
 use denote.Triple.Table.{entered, cited}
 use denote.Triple.Clauses.{Lasts, ensured, lasts}
-use denote.Triple.Walked.{Stays, stay-none, stay-none-slice, gave-slice, walkOf, goes-none, goes-none-slice, goes-gave-slice, Walks, needs, ends-at, walked, walk-meets}
+use denote.Triple.Walked.{Stays, stay-none, stay-none-slice, gave-slice, walkOf, goes-none, goes-none-slice, goes-gave-slice, Walks, needs, ends-at, says, walked, walk-meets}
 use denote.Exit.{yes}
 use Rattle.refusal.specs.declared.Params.{Params}
 use Rattle.refusal.specs.declared.Refusal.{Refusal}
@@ -49,8 +49,9 @@ use Rattle.refusal.proofs.Params.Laws as P′
 use Rattle.refusal.proofs.Refusal as R
 use Rattle.refusal.proofs.Refusal.Laws as R′
 use Rattle.circuit.specs.declared.Gate.{Gate}
-use Rattle.circuit.specs.Circuits.{evaluateAnswer, evaluateWires, evaluateBounds, evaluateScratch}
-use Rattle.records.proofs.Facts.{says4}
+use Rattle.circuit.specs.Circuits.{asRecords}
+use Rattle.circuit.specs.Plan.{planLoans}
+use Rattle.circuit.specs.Evaluate.{evaluateLoans, EvaluatePromise}
 use Rattle.records.proofs.Gates.{Row}
 use Rattle.records.proofs.evaluate.evaluate_gates as gates
 use Rattle.records.proofs.evaluate.evaluate_gates.Symbol as gates-def
@@ -142,17 +143,8 @@ module _ {M : Type 1} (𝓤 : URA M) (H : Heap 𝓤) (A : Atoms 𝓤) (W : Given
       move ! (0 ∷ 2 ∷ []) $ fjoin ! $ move ! (2 ∷ 0 ∷ []) $ fjoin ! $ move ! (2 ∷ 0 ∷ []) $ fjoin ! $ frame ! $ done !
 
   -- what evaluation of the front answers and leaves
-  abbrev Answers : Refusal → Type 0
-  Answers t = t ≡ evaluateAnswer p inputs (take k xs) (wires .now) (bounds .now) (key .now) (length (scratch .now))
-
-  abbrev Wires : List ℤ → Type 0
-  Wires zs = zs ≡ evaluateWires p inputs (take k xs) (wires .now) (bounds .now) (key .now) (scratch .now)
-
-  abbrev Bounds : List ℕ → Type 0
-  Bounds zs = zs ≡ evaluateBounds p inputs (take k xs) (wires .now) (bounds .now) (key .now) (scratch .now)
-
-  abbrev Scratch : List ℤ → Type 0
-  Scratch zs = zs ≡ evaluateScratch p inputs (take k xs) (wires .now) (bounds .now) (key .now) (scratch .now)
+  abbrev Promised : Refusal → List ℤ → List ℕ → List ℤ → Type 0
+  Promised = EvaluatePromise (evaluateLoans (planLoans p inputs (asRecords (take k xs)) (bounds .now)) (wires .now) (key .now) (scratch .now))
 
   -- the call of `evaluate_gates`, at the front of the array in block b
   abbrev passed : (κ : Lft) → ℕ → GName → Args gates.signature (κ, κs)
@@ -168,15 +160,15 @@ module _ {M : Type 1} (𝓤 : URA M) (H : Heap 𝓤) (A : Atoms 𝓤) (W : Given
       move ! (1 ∷ 2 ∷ []) $ fjoin ! $ owned ! u32 (Is u32) (uint-makes 𝓤 H A W w32) inputs _ (refl, inputs-fit) $ fjoin ! $
       owned ! P.the-row (Is P.the-row) (LL.makes P.the-type P′.the-plain 𝓤 H A) p _ p-is $ fjoin ! $ move ! (1 ∷ 0 ∷ []) $ join ! $ frame ! $ done !
 
-  exits : (r : Refusal) (u : Val) (ws : List ℤ) (bs : List ℕ) (ss : List ℤ) → Answers r → Wires ws → Bounds bs → Scratch ss
+  exits : (r : Refusal) (u : Val) (ws : List ℤ) (bs : List ℕ) (ss : List ℤ) → Promised r ws bs ss
       → length ws ≡ length (wires .now) → length bs ≡ length (bounds .now) → length ss ≡ length (scratch .now)
       → ent 𝓤 (⋆ 𝓤 H A (‵ (R.the-row .own r (u ∷ [])) ∷ Alive ∷ ‵ (finally i64 (scratch .name) ss) ∷ ‵ (finally u32 (bounds .name) bs) ∷ ‵ (finally i64 (wires .name) ws) ∷ ‵ Key ∷ []))
       (Post u)
-  exits r u ws bs ss e₁ e₂ e₃ e₄ lw lb ls =
+  exits r u ws bs ss e lw lb ls =
       qed W (‵ (R.the-row .own r (u ∷ [])) ∷ Alive ∷ ‵ (finally i64 (scratch .name) ss) ∷ ‵ (finally u32 (bounds .name) bs) ∷ ‵ (finally i64 (wires .name) ws) ∷ ‵ Key ∷ []) ∵
       suffices ! _ (ends-at 𝓤 H A eval.ended stayed (eval.clauses 𝓤 H A mem run) W bound u r
       (tt, (tt, (tt, (tt, (ws, (bs, (tt, (ss, tt)))))))) (tt, (tt, (tt, (tt, (lw, (lb, (tt, (ls, tt))))))))) $
-      says4 ! e₁ e₂ e₃ e₄ $ move ! (1 ∷ []) $ frame ! $
+      says ! e $ move ! (1 ∷ []) $ frame ! $
       -- [the result; the last scratch, bounds and wires; what the key owns]
       nothing ! $ move ! (2 ∷ 0 ∷ []) $ fjoin ! $ move ! (4 ∷ 0 ∷ []) $ fjoin ! $ move ! (2 ∷ 0 ∷ []) $ fjoin ! $ move ! (2 ∷ 0 ∷ []) $ fjoin ! $
       owned ! usize (Is usize) (uint-makes 𝓤 H A W w64) k _ (refl, k-fits) $ fjoin ! $ owned ! Arr (Is Arr) (makes-gates 𝓤 H A W) xs _ xs-are $ fjoin ! $
@@ -226,9 +218,8 @@ module _ {M : Type 1} (𝓤 : URA M) (H : Heap 𝓤) (A : Atoms 𝓤) (W : Given
         (ensured 𝓤 H A gates.ended (gates.clauses 𝓤 H A mem run) (α ∷ [], κs) (passed (α ∷ []) l₉ γ) tt t)))) (id⊢ 𝓤 _) $ await ! tt $ pick ! (λ t.
         split ! $ move ! (1 ∷ []) $
         use1 W (some (λ (zs : Lasts gates.ended (α ∷ [], κs) (passed (α ∷ []) l₉ γ)). ‵ (lasts gates.ended (α ∷ [], κs) (passed (α ∷ []) l₉ γ) zs)
-        ⊛ raw (fact 𝓤 (Answers t)) ⊛ raw (fact 𝓤 (Wires (zs .1 .1 .1 .0))) ⊛ raw (fact 𝓤 (Bounds (zs .1 .1 .1 .1 .0))) ⊛ raw (fact 𝓤 (Scratch (zs .1 .1 .1 .1 .1 .1 .0))))) (id⊢ 𝓤 _) $
-        pick ! (λ zs. split ! $ move ! (1 ∷ []) $ split ! $ heard ! (Answers t) (λ e₁. split ! $ heard ! (Wires (zs .1 .1 .1 .0)) (λ e₂.
-        split ! $ heard ! (Bounds (zs .1 .1 .1 .1 .0)) (λ e₃. heard ! (Scratch (zs .1 .1 .1 .1 .1 .1 .0)) (λ e₄.
+        ⊛ raw (fact 𝓤 (Promised t (zs .1 .1 .1 .0) (zs .1 .1 .1 .1 .0) (zs .1 .1 .1 .1 .1 .1 .0))))) (id⊢ 𝓤 _) $
+        pick ! (λ zs. split ! $ move ! (1 ∷ []) $ heard ! (Promised t (zs .1 .1 .1 .0) (zs .1 .1 .1 .1 .0) (zs .1 .1 .1 .1 .1 .1 .0)) (λ e.
         fsplit ! $ drop ! $ fsplit ! $ drop ! $ fsplit ! $ drop ! $ fsplit ! $ fsplit ! $ move ! (1 ∷ []) $ feqL ! (λ lw. move ! (1 ∷ []) $ fsplit ! $ fsplit ! $ move ! (1 ∷ []) $
         feqL ! (λ lb. move ! (1 ∷ []) $ fsplit ! $ drop ! $ fsplit ! $ fsplit ! $ move ! (1 ∷ []) $ feqL ! (λ ls. move ! (1 ∷ []) $ drop ! $ move ! (3 ∷ []) $ split ! $ split ! $
         lft-end ! tt $
@@ -243,7 +234,7 @@ module _ {M : Type 1} (𝓤 : URA M) (H : Heap 𝓤) (A : Atoms 𝓤) (W : Given
         keep ! (40 ∷ 41 ∷ 38 ∷ 39 ∷ 36 ∷ 37 ∷ 34 ∷ 35 ∷ 32 ∷ 33 ∷ 30 ∷ 31 ∷ 28 ∷ 29 ∷ 26 ∷ 27 ∷ 24 ∷ 25 ∷ 1 ∷ 23 ∷ 21 ∷ 22 ∷ 19 ∷ 20 ∷ 17 ∷ 18 ∷ 15 ∷ 16 ∷ 13 ∷ 14 ∷ 11 ∷ 12 ∷ 9 ∷ 10
         ∷ 7 ∷ 8 ∷ 0 ∷ 2 ∷ 3 ∷ 4 ∷ 5 ∷ 6 ∷ []) $
         free1 ! $ free1 ! $ free1 ! $ free1 ! $ free1 ! $ free1 ! $ free1 ! $ free1 ! $ free1 ! $ free1 ! $ free1 ! $ free1 ! $ free1 ! $ free1 ! $ free1 ! $ free1 ! $ free1 ! $ free1 ! $
-        free0 ! $ by ! (exits t u (zs .1 .1 .1 .0) (zs .1 .1 .1 .1 .0) (zs .1 .1 .1 .1 .1 .1 .0) e₁ e₂ e₃ e₄ lw lb ls)))))))))))))))))))))))))))))))))
+        free0 ! $ by ! (exits t u (zs .1 .1 .1 .0) (zs .1 .1 .1 .1 .0) (zs .1 .1 .1 .1 .1 .1 .0) e lw lb ls))))))))))))))))))))))))))))))
 
 module _ {M : Type 1} (𝓤 : URA M) (H : Heap 𝓤) (A : Atoms 𝓤) (W : Given 𝓤 H A) (mem : Memory → SProp 𝓤) (run : Routine → Fun 𝓤) (𝓣 : Tables 𝓤 H)
     (known : Triple 𝓤 (𝓣 .C #gates) (Evaluate 𝓤 H A mem run)) where

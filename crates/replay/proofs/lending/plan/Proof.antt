@@ -38,7 +38,7 @@ use denote.Triple.Entry.{Args, Vals, onEntry}
 use denote.Triple.Spec.{Meets, tripleOf}
 use denote.Triple.Table.{entered, cited}
 use denote.Triple.Clauses.{Lasts, ensured, lasts}
-use denote.Triple.Walked.{Stays, stay-none, gave-slice, walkOf, goes-none, goes-gave-slice, Walks, needs, ends-at, walked, walk-meets}
+use denote.Triple.Walked.{Stays, stay-none, gave-slice, walkOf, goes-none, goes-gave-slice, Walks, needs, ends-at, says, walked, walk-meets}
 use denote.Exit.{yes}
 use Rattle.refusal.specs.declared.Params.{Params}
 use Rattle.refusal.specs.declared.Refusal.{Refusal}
@@ -47,8 +47,8 @@ use Rattle.refusal.proofs.Params.Laws as P′
 use Rattle.refusal.proofs.Refusal as R
 use Rattle.refusal.proofs.Refusal.Laws as R′
 use Rattle.circuit.specs.declared.Gate.{Gate}
-use Rattle.circuit.specs.Circuits.{planAnswer, planBounds}
-use Rattle.records.proofs.Facts.{says2}
+use Rattle.circuit.specs.Circuits.{asRecords}
+use Rattle.circuit.specs.Plan.{PlanLoans, planLoans, PlanPromise}
 use Rattle.records.proofs.Gates.{Row}
 use Rattle.records.proofs.plan.plan_gates as gates
 use Rattle.records.proofs.plan.plan_gates.Symbol as gates-def
@@ -96,6 +96,9 @@ module _ {M : Type 1} (𝓤 : URA M) (H : Heap 𝓤) (A : Atoms 𝓤) (W : Given
   abbrev Lent : Fml
   Lent = MutSlice (named 0) κ u32 .own y (w ∷ [])
 
+  abbrev loans : PlanLoans
+  loans = planLoans p inputs (asRecords (take k xs)) (y .now)
+
   -- the call of `plan_gates`, at the front of the array in block b
   abbrev passed : (κ′ : Lft) → ℕ → GName → Args gates.signature (κ′, (κ, tt))
   passed κ′ b γ = (p, (inputs, (front k xs b γ, (y, tt))))
@@ -112,11 +115,11 @@ module _ {M : Type 1} (𝓤 : URA M) (H : Heap 𝓤) (A : Atoms 𝓤) (W : Given
       nothing ! $ move ! (3 ∷ 0 ∷ []) $ fjoin ! $ move ! (2 ∷ 0 ∷ []) $ fjoin ! $ owned ! u32 (Is u32) (uint-makes 𝓤 H A W w32) inputs _ (refl, inputs-fit) $ fjoin ! $
       owned ! P.the-row (Is P.the-row) (LL.makes P.the-type P′.the-plain 𝓤 H A) p _ p-is $ fjoin ! $ move ! (1 ∷ 0 ∷ []) $ join ! $ frame ! $ done !
 
-  exits : (r : Refusal) (u : Val) (zs : List ℕ) → r ≡ planAnswer p inputs (take k xs) (y .now) → zs ≡ planBounds p inputs (take k xs) (y .now) → length zs ≡ length (y .now)
+  exits : (r : Refusal) (u : Val) (zs : List ℕ) → PlanPromise loans r zs → length zs ≡ length (y .now)
       → ent 𝓤 (⋆ 𝓤 H A (‵ (R.the-row .own r (u ∷ [])) ∷ (‵ (flft κ q) ⊛ ‵ ftrue) ∷ ‵ (finally u32 (y .name) zs) ∷ [])) (Post u)
-  exits r u zs e₁ e₂ l =
+  exits r u zs e l =
       qed W (‵ (R.the-row .own r (u ∷ [])) ∷ (‵ (flft κ q) ⊛ ‵ ftrue) ∷ ‵ (finally u32 (y .name) zs) ∷ []) ∵
-      suffices ! _ (ends-at 𝓤 H A plan.ended stayed (plan.clauses 𝓤 H A mem run) W bound u r (tt, (tt, (tt, (tt, (zs, tt))))) (tt, (tt, (tt, (tt, (l, tt)))))) $ says2 ! e₁ e₂ $
+      suffices ! _ (ends-at 𝓤 H A plan.ended stayed (plan.clauses 𝓤 H A mem run) W bound u r (tt, (tt, (tt, (tt, (zs, tt))))) (tt, (tt, (tt, (tt, (l, tt)))))) $ says ! e $
       move ! (1 ∷ []) $ frame ! $
       -- [the result; the last bounds]
       nothing ! $ move ! (2 ∷ 0 ∷ []) $ fjoin ! $ owned ! usize (Is usize) (uint-makes 𝓤 H A W w64) k _ (refl, k-fits) $ fjoin ! $
@@ -157,9 +160,8 @@ module _ {M : Type 1} (𝓤 : URA M) (H : Heap 𝓤) (A : Atoms 𝓤) (W : Given
         (ensured 𝓤 H A gates.ended (gates.clauses 𝓤 H A mem run) (α ∷ [], (κ, tt)) (passed (α ∷ []) l₆ γ) tt t)))) (id⊢ 𝓤 _) $ await ! tt $ pick ! (λ t.
         split ! $ move ! (1 ∷ []) $
         use1 W (some (λ (zs : Lasts gates.ended (α ∷ [], (κ, tt)) (passed (α ∷ []) l₆ γ)). ‵ (lasts gates.ended (α ∷ [], (κ, tt)) (passed (α ∷ []) l₆ γ) zs)
-        ⊛ raw (fact 𝓤 (t ≡ planAnswer p inputs (take k xs) (y .now))) ⊛ raw (fact 𝓤 (zs .1 .1 .1 .0 ≡ planBounds p inputs (take k xs) (y .now))))) (id⊢ 𝓤 _) $ pick ! (λ zs.
-        split ! $ move ! (1 ∷ []) $ split ! $ heard ! (t ≡ planAnswer p inputs (take k xs) (y .now)) (λ e₁.
-        heard ! (zs .1 .1 .1 .0 ≡ planBounds p inputs (take k xs) (y .now)) (λ e₂.
+        ⊛ raw (fact 𝓤 (PlanPromise loans t (zs .1 .1 .1 .0))))) (id⊢ 𝓤 _) $ pick ! (λ zs.
+        split ! $ move ! (1 ∷ []) $ heard ! (PlanPromise loans t (zs .1 .1 .1 .0)) (λ e.
         fsplit ! $ drop ! $ fsplit ! $ drop ! $ fsplit ! $ drop ! $ fsplit ! $ fsplit ! $ move ! (1 ∷ []) $ feqL ! (λ l. move ! (1 ∷ []) $ drop ! $ move ! (1 ∷ []) $
         split ! $ split ! $ lft-end ! tt $
         -- [the front's lifetime is over; the token; the result; the last bounds; the rest; _10; …]. The array is whole again
@@ -172,7 +174,7 @@ module _ {M : Type 1} (𝓤 : URA M) (H : Heap 𝓤) (A : Atoms 𝓤) (W : Given
         forget ! 19 refl $ forget ! 21 refl $ forget ! 23 refl $
         keep ! (23 ∷ 24 ∷ 21 ∷ 22 ∷ 19 ∷ 20 ∷ 17 ∷ 18 ∷ 15 ∷ 16 ∷ 13 ∷ 14 ∷ 1 ∷ 12 ∷ 10 ∷ 11 ∷ 8 ∷ 9 ∷ 6 ∷ 7 ∷ 4 ∷ 5 ∷ 0 ∷ 2 ∷ 3 ∷ []) $
         free1 ! $ free1 ! $ free1 ! $ free1 ! $ free1 ! $ free1 ! $ free1 ! $ free1 ! $ free1 ! $ free1 ! $ free1 ! $ free0 ! $
-        by ! (exits t u (zs .1 .1 .1 .0) e₁ e₂ l))))))))))))))))))))))
+        by ! (exits t u (zs .1 .1 .1 .0) e l)))))))))))))))))))))
 
 module _ {M : Type 1} (𝓤 : URA M) (H : Heap 𝓤) (A : Atoms 𝓤) (W : Given 𝓤 H A) (mem : Memory → SProp 𝓤) (run : Routine → Fun 𝓤) (𝓣 : Tables 𝓤 H)
     (known : Triple 𝓤 (𝓣 .C #gates) (Plan 𝓤 H A mem run)) where
