@@ -2,7 +2,7 @@
 -- 9, 10 and the bounds of the file are.
 use mathlib.Core.Path.{_≡_, refl, sym, ap, ap₂, _∙_}
 use mathlib.Core.Logic.{_≢_}
-use mathlib.Core.Bool.{true, false}
+use mathlib.Core.Bool.{true, false, not}
 use mathlib.Core.List.{List, _∷_, _++_}
 use Prim.Native.Nat.{ℕ, zero, suc, _+_, _≤_, _<_}
 use native.Mathlib.Omega.{arith}
@@ -12,14 +12,14 @@ use Rattle.whole.specs.Tests.{or-neither}
 use Rattle.whole.specs.Lists.{tabulate, length-tabulate, getD-tabulate, every, getD-every}
 use Rattle.refusal.specs.declared.Params.{Params}
 use Rattle.refusal.specs.declared.Refusal.{Refusal}
-use Rattle.refusal.specs.First.{firstOf, doneOr, doneOr-done, doneOr-refused}
-use Rattle.refusal.specs.Parameters.{refused}
+use Rattle.refusal.specs.First.{Row, refused, firstOf, answerOf, Clear, answer-rest, first-rest, doneOr, doneOr-done, doneOr-refused}
 use Rattle.scheme.specs.Arithmetic.{fits}
 use Rattle.scheme.specs.Passed.{lengths-same, below-fits}
 use Rattle.circuit.specs.declared.Gate.{Gate}
-use Rattle.circuit.specs.Core.{records, uneven, planCoreRows, planCoreAnswer, planCoreBounds}
+use Rattle.circuit.specs.Circuits.{badCounts, records, unevenLists, asLists}
+use Rattle.circuit.specs.Plan.{PlanLoans, planLoans, wireCount, circuitRows, planFront, planRows, planAnswer, planBounds, PlanPromise, plan-alike}
 use Rattle.gatfile.specs.declared.settle.FileBounds.{FileBounds}
-use Rattle.circuitfile.specs.File.{fileParams, fileInputs, fileGateCount, fileGate, fileGates, fileInputBounds, fileBounds, fileGateRows, checkNumber, filePlace}
+use Rattle.circuitfile.specs.File.{fileParams, fileInputs, fileGateCount, fileGate, fileGates, fileInputBounds, fileBounds, fileGateRows, checkRows}
 use Rattle.circuitfile.specs.Order.{HeadRight, gateAnswer, checkRefusal}
 use Rattle.circuitfile.specs.Wires.{length-inputs, length-bounds}
 
@@ -68,23 +68,34 @@ module _ (file : List ℕ) where
       rw (getD-replicate (fileInputs file) i (fileParams file .e) 0 below) (below-fits (fileParams file .q) (fileParams file .e) (r .range .e-fits)))
 
   module _ (r : HeadRight file) (Bs : List ℕ) (front : take (fileInputs file) Bs ≡ fileInputBounds file) (room : length Bs ≡ fileInputs file + fileGateCount file) where
-    even : uneven (fileKinds file) (fileLefts file) (fileRights file) ≡ false
-    unfolding uneven
+    abbrev loans : PlanLoans
+    loans = planLoans (fileParams file) (fileInputs file) (asLists (fileKinds file) (fileLefts file) (fileRights file)) Bs
+
+    even : unevenLists (fileKinds file) (fileLefts file) (fileRights file) ≡ false
+    unfolding unevenLists
     even = or-neither (lengths-same _ _ (length-column _ ∙ sym (length-column _))) (lengths-same _ _ (length-column _ ∙ sym (length-column _)))
 
-    -- the rows of planning up to 8 do not apply, and so its number is that of the gates
-    number : firstOf (planCoreRows (fileParams file) (fileInputs file) (fileKinds file) (fileLefts file) (fileRights file) Bs) ≡ firstOf (fileGateRows file)
-    unfolding planCoreRows fileGateRows firstOf
-    number =
-        rw (r .ranges, length-column, r .counts, even, lengths-same _ _ room, front, inputs-fit r, records-file)
+    -- the rows of planning up to 8 do not apply
+    clear : Clear (planFront loans)
+    unfolding planFront
+    clear =
+        let counts : badCounts (fileInputs file) (length (fileKinds file)) ≡ false = rw length-column (r .counts) in
+        let lengths = or-neither even (lengths-same (length Bs) (wireCount loans) (room ∙ rw length-column)) in
+        let fit : every (fits (fileParams file .q)) (take (fileInputs file) Bs) ≡ true = rw front (inputs-fit r) in
+        ((r .ranges, tt), ((counts, tt), ((lengths, tt), ((ap not fit, tt), tt))))
 
-    pub settled-answer : planCoreAnswer (fileParams file) (fileInputs file) (fileKinds file) (fileLefts file) (fileRights file) Bs ≡ gateAnswer file
-    unfolding planCoreAnswer gateAnswer filePlace
-    settled-answer = rw (number, records-file, front)
+    rows-file : circuitRows loans ≡ fileGateRows file
+    unfolding fileGateRows
+    rows-file = rw (records-file, front)
 
-    pub settled-bounds : planCoreBounds (fileParams file) (fileInputs file) (fileKinds file) (fileLefts file) (fileRights file) Bs ≡ doneOr (firstOf (fileGateRows file)) (fileBounds file) Bs
-    unfolding planCoreBounds fileBounds
-    settled-bounds = rw (number, records-file, front)
+    -- and so its answer is that of the gates
+    pub settled-answer : planAnswer loans ≡ gateAnswer file
+    unfolding planAnswer planRows
+    settled-answer = answer-rest (planFront loans) (circuitRows loans) clear ∙ ap (λ (rows : List Row). answerOf rows) rows-file
+
+    pub settled-bounds : planBounds loans ≡ doneOr (firstOf (fileGateRows file)) (fileBounds file) Bs
+    unfolding planBounds planRows fileBounds
+    settled-bounds = rw (first-rest (planFront loans) (circuitRows loans) clear, rows-file, records-file, front)
 
 -- the same of what is lent to planning: the fields that were read, the lists that were filled, and a table `found` whose first entries were filled with E
 module _ (file : List ℕ) (r : HeadRight file) (found : List ℕ) {p : Params} {inputs : ℕ} {ks ls rs Es : List ℕ} (a : p ≡ fileParams file) (b : inputs ≡ fileInputs file)
@@ -100,22 +111,22 @@ module _ (file : List ℕ) (r : HeadRight file) (found : List ℕ) {p : Params} 
   long : length (Es ++ drop inputs found) ≡ fileInputs file + fileGateCount file
   long = length-append Es (drop inputs found) ∙ omega (arith, ap length filled, length-inputs file, length-drop inputs found)
 
-  lent-answer : planCoreAnswer p inputs ks ls rs (Es ++ drop inputs found) ≡ gateAnswer file
-  lent-answer = simp (a, b, k, l, m) (simp b at (settled-answer file r (Es ++ drop inputs found) front long))
+  lent : planLoans p inputs (asLists ks ls rs) (Es ++ drop inputs found)
+      ≡ planLoans (fileParams file) (fileInputs file) (asLists (fileKinds file) (fileLefts file) (fileRights file)) (Es ++ drop inputs found)
+  lent = rw (a, b, k, l, m)
 
-  lent-bounds : planCoreBounds p inputs ks ls rs (Es ++ drop inputs found) ≡ settledBounds file found
-  unfolding settledBounds
-  lent-bounds = simp (a, b, k, l, m) (simp b at (settled-bounds file r (Es ++ drop inputs found) front long) ∙ rw filled)
-
-  pub lent-planned : {a : Refusal} {out : List ℕ} → (a ≡ planCoreAnswer p inputs ks ls rs (Es ++ drop inputs found)) × (out ≡ planCoreBounds p inputs ks ls rs (Es ++ drop inputs found))
+  pub lent-planned : {a : Refusal} {out : List ℕ} → PlanPromise (planLoans p inputs (asLists ks ls rs) (Es ++ drop inputs found)) a out
       → (a ≡ gateAnswer file) × (out ≡ settledBounds file found)
-  lent-planned w = (w .0 ∙ lent-answer, w .1 ∙ lent-bounds)
+  unfolding settledBounds
+  lent-planned w =
+      let v = plan-alike lent w in
+      (v .answer ∙ settled-answer file r _ front long, v .bounds-left ∙ settled-bounds file r _ front long ∙ rw (filled, b))
 
 -- ---- where 9 and 10 let the file pass, the table holds the bounds of all wires
 
 module _ (file : List ℕ) where
   pub settled-all : (found : List ℕ) {a : Refusal} {out : List ℕ} → a ≡ gateAnswer file → a .number ≡ 0 → out ≡ settledBounds file found → out ≡ fileBounds file
-  unfolding gateAnswer settledBounds
+  unfolding settledBounds
   settled-all found e z w = w ∙ doneOr-done _ _ (sym (ap (λ (a : Refusal). a .number) e) ∙ z)
 
 -- ---- the check of a file, with the bounds of all wires
@@ -126,15 +137,14 @@ fileBoundsOf a table = record { number = a .number; place = a .place; bounds = t
 module _ (file : List ℕ) where
   -- the bounds at the front of a table, and the rest as it was; on a refusal all of it
   unfoldable pub boundsIn : List ℕ → List ℕ
-  boundsIn table = doneOr (checkNumber file) (fileBounds file ++ drop (length (fileBounds file)) table) table
+  boundsIn table = doneOr (firstOf (checkRows file)) (fileBounds file ++ drop (length (fileBounds file)) table) table
 
   -- in a table of zeros, one for each wire that a circuit may have
   unfoldable pub boundsAnswer : FileBounds
   boundsAnswer = fileBoundsOf (checkRefusal file) (boundsIn (replicate 5120 0))
 
   module _ (table : List ℕ) {a : Refusal} (e : a ≡ checkRefusal file) where
-    number-is : checkNumber file ≡ a .number
-    unfolding checkRefusal
+    number-is : firstOf (checkRows file) ≡ a .number
     number-is = sym (ap (λ (a : Refusal). a .number) e)
 
     pub bounds-refused : a .number ≢ 0 → fileBoundsOf a table ≡ fileBoundsOf (checkRefusal file) (boundsIn table)

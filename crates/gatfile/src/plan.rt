@@ -3,7 +3,7 @@ ghost use mathlib.Core.Path.{_≡_};
 ghost use mathlib.Core.List.{flatMap};
 ghost use Prim.Native.Nat.{_+_, _*_, _≤_, _<_};
 ghost use lib.ListN.{length};
-ghost use Rattle.circuitfile.specs.File.{fourBytes, checkAnswer, planFileAnswer, planFileBuffer};
+ghost use Rattle.circuitfile.specs.File.{fourBytes, planFileBuffer, CheckPromise, PlanFilePromise};
 ghost use Rattle.circuitfile.specs.Order.{planRefusal};
 ghost use Rattle.gatfile.specs.Writing.{Written};
 use crate::settle::WIRES;
@@ -73,7 +73,7 @@ fn planned(file: &[u8], bounds: &mut [u8]) -> Refusal
 
 // The check of a circuit file through its whole order, 10 included: 65,536 times the number plus the place.
 pub fn check(file: &[u8]) -> u64
-    ensures { λ r. ⌜ r ≡ checkAnswer (now (file .entry)) ⌝ }
+    ensures { λ r. ⌜ CheckPromise (now (file .entry)) r ⌝ }
 {
     let c = bounds(file);
     answer(Refusal {
@@ -85,8 +85,7 @@ pub fn check(file: &[u8]) -> u64
 // Planning on a circuit file: every wire's bound, four big-endian bytes each, and the same answer. 3 for the buffer's length comes after the
 // file's 12 and before 9.
 pub fn plan(file: &[u8], bounds: &mut [u8]) -> u64
-    ensures { λ r. ⌜ r ≡ planFileAnswer (now (file .entry)) (now (bounds .entry)) ⌝ }
-    ensures { λ r. ⌜ now (bounds .exit) ≡ planFileBuffer (now (file .entry)) (now (bounds .entry)) ⌝ }
+    ensures { λ r. ⌜ PlanFilePromise (now (file .entry)) (now (bounds .entry)) r (now (bounds .exit)) ⌝ }
 {
     answer(planned(file, bounds))
 }

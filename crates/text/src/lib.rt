@@ -8,7 +8,7 @@ ghost use Prim.Native.Nat.{_≤_};
 ghost use lib.ListN.{length};
 ghost use Rattle.refusal.specs.First.{firstOf};
 ghost use Rattle.circuitfile.specs.File.{fileBounds, headRows};
-ghost use Rattle.circuitfile.specs.Text.{wireLines, okLine, textAnswer, textBuffer};
+ghost use Rattle.circuitfile.specs.Text.{wireLines, okLine, TextPromise};
 ghost use Rattle.circuitfile.specs.Text.{text as fileText};
 ghost use Rattle.gatfile.specs.Writing.{Written};
 use crate::line::put_pair;
@@ -65,8 +65,7 @@ fn put_text(file: &[u8], out: &mut [u8]) -> usize
 // Writes the text at the front of the buffer and answers its length. A buffer that is shorter than the text is refused with 3, and nothing is
 // written. No text is longer than 102,432 bytes.
 pub fn text(file: &[u8], out: &mut [u8]) -> Printed
-    ensures { λ r. ⌜ r ≡ textAnswer (now (file .entry)) (length (now (out .entry))) ⌝ }
-    ensures { λ r. ⌜ now (out .exit) ≡ textBuffer (now (file .entry)) (now (out .entry)) ⌝ }
+    ensures { λ r. ⌜ TextPromise (now (file .entry)) (now (out .entry)) r (now (out .exit)) ⌝ }
     ensures { λ r. ⌜ length (fileText (now (file .entry))) ≤ 102432 ⌝ }
 {
     let mut room = [0u8; ROOM];
@@ -75,13 +74,13 @@ pub fn text(file: &[u8], out: &mut [u8]) -> Printed
         return Printed {
             number: 3,
             place: 0,
-            length: 0,
+            bytes: 0,
         };
     }
     put(&room[0..long], 0, out);
     Printed {
         number: 0,
         place: 0,
-        length: long,
+        bytes: long,
     }
 }

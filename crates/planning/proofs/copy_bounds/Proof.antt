@@ -1,4 +1,4 @@
--- `plan::copy_bounds` makes the buffer what was lent to copy from. The invariant: the entries passed are copied, the rest as found. Leans on the
+-- `planning::copy_bounds` makes the buffer what was lent to copy from. The invariant: the entries passed are copied, the rest as found. Leans on the
 -- laws of `Filled`.
 use mathlib.Core.Path.{refl}
 use Prim.Native.Nat.{_-_, _<_}

@@ -1,4 +1,4 @@
--- `plan::gate_bound` is the bound of a gate by its kind: XOR's and NOT's by their laws (`XOR-bound-is`, `NOT-bound-is`), AND's by what `and_bound`
+-- `planning::gate_bound` is the bound of a gate by its kind: XOR's and NOT's by their laws (`XOR-bound-is`, `NOT-bound-is`), AND's by what `and_bound`
 -- ensures. Two bounds that fit are below q, so that their sum is small.
 use mathlib.Core.Path.{sym, _∙_}
 use native.Mathlib.Omega.{arith}

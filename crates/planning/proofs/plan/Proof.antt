@@ -1,4 +1,4 @@
--- `plan::plan` answers and writes as planning is defined: each return is one of the four ends of `Planned`. What `plan_number` answers 0 tells
+-- `planning::plan` answers and writes as planning is defined: each return is one of the four ends of `Planned`. What `plan_number` answers 0 tells
 -- (`PlanReady`) is what the functions ask for, and the buffer gets the copy of the bounds that `settle` filled.
 use mathlib.Core.Path.{_≡_, refl, sym, ap, _∙_}
 use mathlib.Core.List.{List, _++_}

@@ -1,4 +1,4 @@
--- `plan::plan_number` gives the number of the first row of planning that applies of those before the gates', each return by what the tests and `row` ensure.
+-- `planning::plan_number` gives the number of the first row of planning that applies of those before the gates', each return by what the tests and `row` ensure.
 use mathlib.Core.Path.{_≡_, sym, _∙_}
 use mathlib.Core.Bool.{false, _||_}
 use Prim.Native.Nat.{_+_}

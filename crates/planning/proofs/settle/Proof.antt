@@ -1,4 +1,4 @@
--- `plan::settle` fills the table and answers the first gate over the budget. The invariant is `Settled`, whose laws are in `Settling`: the wires
+-- `planning::settle` fills the table and answers the first gate over the budget. The invariant is `Settled`, whose laws are in `Settling`: the wires
 -- up to `own` have their bounds, and each fits. Operands lie below `own` since no gate is wrong (`gates-below`).
 use mathlib.Core.Path.{_≡_}
 use Prim.Native.Nat.{ℕ, _+_, _*_, _-_, _<_}
