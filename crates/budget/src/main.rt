@@ -53,7 +53,7 @@ fn render(file: &[u8], out: &mut [u8]) -> usize
     ensures { λ r. ⌜ take r (now (out .exit)) ≡ text (now (file .entry)) ⌝ }
     ensures { λ r. ⌜ Counts r (now (out .exit)) ⌝ }
 {
-    text::text(file, out).length
+    text::text(file, out).bytes
 }
 
 fn main() {

@@ -86,7 +86,7 @@ pub fn printed(text: &mut [u8], at: usize, r: Printed) -> usize
 {
     let to = unsigned(text, at, r.number as u64);
     let after = unsigned(text, to, r.place);
-    unsigned(text, after, r.length as u64)
+    unsigned(text, after, r.bytes as u64)
 }
 
 // Puts n, q, L, E and F.

@@ -13,9 +13,9 @@ returns : tie.Need-returns
 returns c =
     let s = c .before .before .before .before .before .before in
     let t = c .before .before .text .ensures in
-    let f = text-front (s .args .file .now) (s .args .out .now) (omega (arith, t .1 .1, s .pre)) in
-    let within : c .before .before .text .result .length ≤ length (c .before .before .text .last .1 .0) = rw (t .0, t .1 .0) (f .0) in
-    (rw (t .0, t .1 .0) (f .1), (within, sym (length-take-le _ _ within)))
+    let f = text-front (s .args .file .now) (s .args .out .now) (omega (arith, t .1, s .pre)) in
+    let within : c .before .before .text .result .bytes ≤ length (c .before .before .text .last .1 .0) = rw (t .0 .answer, t .0 .buffer-left) (f .0) in
+    (rw (t .0 .answer, t .0 .buffer-left) (f .1), (within, sym (length-take-le _ _ within)))
 
 pub render-spec : {M : Type 1} → statement M
 render-spec = tie.close (tie.spec (λ c κs. search needs) (λ c. search needs) returns)

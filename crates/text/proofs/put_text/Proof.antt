@@ -4,8 +4,7 @@ use Prim.Native.Nat.{_<_}
 use native.Mathlib.Omega.{arith}
 use native.Mathlib.Nat.{sub-zero}
 use Rattle.refusal.specs.declared.Refusal.{Refusal}
-use Rattle.refusal.specs.First.{firstOf}
-use Rattle.refusal.specs.Parameters.{refused}
+use Rattle.refusal.specs.First.{refused, firstOf}
 use Rattle.circuitfile.specs.File.{headRows}
 use Rattle.circuitfile.specs.Text.{wordREFUSED}
 use Rattle.circuitfile.specs.Order.{checkRefusal, check-passes, check-small, check-place}
@@ -22,7 +21,6 @@ refusal : (c : tie.After-bounds) → refused (c .bounds .result .number) (c .bou
 refusal c = bounds-refusal _ (c .bounds .ensures)
 
 put-pair-requires : tie.Need-put-pair-requires
-unfolding checkRefusal
 put-pair-requires c κs =
     let r = c .before .before .before .before .before in
     let number : r .bounds .result .number < 13 = rw (ap (λ (a : Refusal). a .number) (refusal r)) (check-small _) in
