@@ -1,7 +1,6 @@
 -- `planning::plan_number` gives the number of the first row of planning that applies of those before the gates', each return by what the tests and `row` ensure.
 use mathlib.Core.Path.{_≡_, sym, _∙_}
 use mathlib.Core.Bool.{false, _||_}
-use Prim.Native.Nat.{_+_}
 use native.Mathlib.Nat.{sub-zero}
 use native.Mathlib.Omega.{arith}
 use lib.ListN.{length}

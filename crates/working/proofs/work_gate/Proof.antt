@@ -2,7 +2,7 @@
 -- wire (`Below`), so that they are ciphertexts (`Operand`), and what is made of them is its wire (`made`). Leans on what `copy` and `make_wire` ensure.
 use mathlib.Core.Path.{_≡_, ap, _∙_}
 use mathlib.Core.List.{List, _++_}
-use Prim.Native.Nat.{_+_, _*_, _-_, _≤_}
+use Prim.Native.Nat.{_+_, _*_, _-_, _^_, _≤_, _<_}
 use native.Mathlib.Omega.{arith}
 use lib.IntN.{ℤ}
 use lib.ListN.{length, take, drop}
@@ -28,6 +28,10 @@ left-ends s = row-ends (s .args .p .n) (s .args .own) (s .args .left) (below s .
 right-ends : (s : tie.Start) → s .args .right * s .args .p .n + s .args .p .n ≤ s .args .own * s .args .p .n
 right-ends s = row-ends (s .args .p .n) (s .args .own) (s .args .right) (below s .right-below)
 
+-- and the machine counts as far as the wires reach
+wires-fit : (s : tie.Start) → length (s .args .wires .now) < 2 ^ 64
+wires-fit s = s .good .1 .1 .1 .1 .1 .0 .0
+
 mul-a : tie.Need-mul-a
 mul-a c = omega (arith, left-ends (c .before))
 
@@ -35,19 +39,19 @@ mul-b : tie.Need-mul-b
 mul-b c = omega (arith, right-ends (c .before))
 
 add-copy : tie.Need-add-copy
-add-copy c = let s = c .before in omega (arith, left-ends s, s .pre .own-inside, s .good .1 .1 .1 .1 .1 .0 .0)
+add-copy c = let s = c .before in omega (arith, left-ends s, s .pre .own-inside, wires-fit s)
 
 mul-copy : tie.Need-mul-copy
-mul-copy c = let s = c .before in omega (arith, left-ends s, s .pre .own-inside, s .good .1 .1 .1 .1 .1 .0 .0)
+mul-copy c = let s = c .before in omega (arith, left-ends s, s .pre .own-inside, wires-fit s)
 
 part-copy-end : tie.Need-part-copy-end
 part-copy-end c = let s = c .before .before in omega (arith, left-ends s, s .pre .own-inside)
 
 add-copy-2 : tie.Need-add-copy-2
-add-copy-2 c = let s = c .before .before .before .before .before .before in omega (arith, right-ends s, s .pre .own-inside, s .good .1 .1 .1 .1 .1 .0 .0)
+add-copy-2 c = let s = c .before .before .before .before .before .before in omega (arith, right-ends s, s .pre .own-inside, wires-fit s)
 
 mul-copy-2 : tie.Need-mul-copy-2
-mul-copy-2 c = let s = c .before .before .before .before .before .before in omega (arith, right-ends s, s .pre .own-inside, s .good .1 .1 .1 .1 .1 .0 .0)
+mul-copy-2 c = let s = c .before .before .before .before .before .before in omega (arith, right-ends s, s .pre .own-inside, wires-fit s)
 
 part-copy-end-2 : tie.Need-part-copy-end-2
 part-copy-end-2 c = let s = c .before .before .before .before .before .before .before in omega (arith, right-ends s, s .pre .own-inside)

@@ -1,15 +1,15 @@
 -- `number::evaluate_number` gives the number of the first row of evaluation that applies of those before planning's, each return by what the tests and `row`
 -- ensure. Past 2 the counts are small, so that no product wraps, and past 3 the inputs' wires lie within the buffer.
 use mathlib.Core.Path.{_≡_, sym, ap, _∙_}
-use mathlib.Core.Bool.{Bool, false, not, _||_}
-use Prim.Native.Nat.{ℕ, _+_, _*_, _≤_}
+use mathlib.Core.Bool.{false, not, _||_}
+use Prim.Native.Nat.{_*_, _≤_}
 use native.Mathlib.Nat.{mul-le-mul, mul-le-mul-right, sub-zero}
 use native.Mathlib.Omega.{arith}
-use lib.ListN.{length, take}
+use lib.ListN.{length}
 use borrow.Author.Needs.{needs}
 use Rattle.whole.specs.Tests.{or-left, or-right}
 use Rattle.refusal.specs.Parameters.{InRange}
-use Rattle.scheme.specs.Calls.{badParams, differs, outside}
+use Rattle.scheme.specs.Calls.{badParams, differs}
 use Rattle.scheme.specs.Passed.{length-is}
 use Rattle.keys.specs.Chain.{params-modulus, answered-range, given, stops, passes, asks, none, either}
 use Rattle.circuit.specs.Circuits.{badCounts, asLists, unevenLists}

@@ -1,7 +1,7 @@
 -- `evaluate::evaluate_gates` meets its contract: a walk of its MIR, by hand. The gates are lent to `first_gates` and kept, since a `&` is Copy, and so is the key;
 -- wires, bounds and scratch go on to `evaluate_first` for good. All that the proof knows of the two is that each meets its contract.
 -- Assumes nothing.
-use mathlib.Core.Path.{_≡_, refl, _∙_}
+use mathlib.Core.Path.{_≡_, refl}
 use Prim.Native.Nat.{ℕ, _<_, _^_}
 use mathlib.Core.List.{List, [], _∷_}
 use lib.IntN.{ℤ}
