@@ -1,7 +1,6 @@
 ghost use mathlib.Core.Path.{_≡_};
-ghost use lib.ListN.{length};
 ghost use Rattle.refusal.specs.Parameters.{params};
-ghost use Rattle.scheme.specs.Calls.{xorAnswer, xorResult, notAnswer, notResult};
+ghost use Rattle.scheme.specs.Calls.{xorLoans, xorAnswer, xorResult, notLoans, notAnswer, notResult};
 use gates::not;
 use gates::xor;
 use refusal::Params;
@@ -20,8 +19,8 @@ pub extern "C" fn bench_xor(
     b2: u32,
     out: &mut [i64],
 ) -> u32
-    ensures answer { λ r. ⌜ r ≡ (xorAnswer (params n q l e f) (now (c .entry)) b1 (now (d .entry)) b2 (length (now (out .entry)))) .number ⌝ }
-    ensures buffer { λ r. ⌜ now (out .exit) ≡ xorResult (params n q l e f) (now (c .entry)) b1 (now (d .entry)) b2 (now (out .entry)) ⌝ }
+    ensures answer { λ r. ⌜ r ≡ (xorAnswer (xorLoans (params n q l e f) (now (c .entry)) b1 (now (d .entry)) b2 (now (out .entry)))) .number ⌝ }
+    ensures buffer { λ r. ⌜ now (out .exit) ≡ xorResult (xorLoans (params n q l e f) (now (c .entry)) b1 (now (d .entry)) b2 (now (out .entry))) ⌝ }
 {
     xor(Params { n, q, l, e, f }, c, b1, d, b2, out).number
 }
@@ -38,8 +37,8 @@ pub extern "C" fn bench_not(
     bound: u32,
     out: &mut [i64],
 ) -> u32
-    ensures answer { λ r. ⌜ r ≡ (notAnswer (params n q l e f) (now (c .entry)) bound (length (now (out .entry)))) .number ⌝ }
-    ensures buffer { λ r. ⌜ now (out .exit) ≡ notResult (params n q l e f) (now (c .entry)) bound (now (out .entry)) ⌝ }
+    ensures answer { λ r. ⌜ r ≡ (notAnswer (notLoans (params n q l e f) (now (c .entry)) bound (now (out .entry)))) .number ⌝ }
+    ensures buffer { λ r. ⌜ now (out .exit) ≡ notResult (notLoans (params n q l e f) (now (c .entry)) bound (now (out .entry))) ⌝ }
 {
     not(Params { n, q, l, e, f }, c, bound, out).number
 }

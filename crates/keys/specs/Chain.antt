@@ -36,8 +36,8 @@ pub record Gives (rows : List Row) (n : ℕ) : Type 0 where
 pub given : (rows : List Row) {n : ℕ} → Gives rows n → n ≡ firstOf rows
 given rows g = g .number
 
-pub none : Gives [] 0
-none = record { number = sym first-none }
+pub no-rows : Gives [] 0
+no-rows = record { number = sym first-none }
 
 -- of a row's test t the function has the answer b
 module _ {k : ℕ} {b t : Bool} {rows : List Row} where
@@ -54,8 +54,8 @@ module _ {k : ℕ} {b t : Bool} {rows : List Row} where
   asks n-is e later = record { number = rw (first-row, ← e, ← later .number) n-is }
 
 -- a row of several tests
-pub either : {a b c d : Bool} → a ≡ b → c ≡ d → (a || c) ≡ (b || d)
-either e f = rw (e, f)
+pub or-same : {a b c d : Bool} → a ≡ b → c ≡ d → (a || c) ≡ (b || d)
+or-same e f = rw (e, f)
 
 -- ---- refused, and done
 
@@ -75,23 +75,23 @@ done-written a z o e = e ∙ sym (doneOr-done a z o)
 
 -- what is answered, of rows whose place is 0: the number, and beside it a bound or a bit where the call has one
 module _ (rows : List Row) (place : placeOf rows ≡ 0) where
-  three : {A : Type 0} (answer : ℕ → ℕ → ℕ → A) {n x y : ℕ} → n ≡ firstOf rows → x ≡ y → answer n 0 x ≡ answer (firstOf rows) (placeOf rows) y
-  three answer e f = rw (place, e, f)
+  answer-parts : {A : Type 0} (answer : ℕ → ℕ → ℕ → A) {n x y : ℕ} → n ≡ firstOf rows → x ≡ y → answer n 0 x ≡ answer (firstOf rows) (placeOf rows) y
+  answer-parts answer e f = rw (place, e, f)
 
   pub answer-given : {n : ℕ} → n ≡ firstOf rows → refused n 0 ≡ answerOf rows
   answer-given e = rw (place, e)
 
   pub bounded-refused : {n : ℕ} (B : ℕ) → n ≡ firstOf rows → n ≢ 0 → withBound n 0 0 ≡ bounded rows B
-  bounded-refused B e h = three withBound e (refused-kept B 0 e h)
+  bounded-refused B e h = answer-parts withBound e (refused-kept B 0 e h)
 
   pub bounded-done : {x : ℕ} (B : ℕ) → firstOf rows ≡ 0 → x ≡ B → states x ≡ bounded rows B
-  bounded-done B o e = three withBound (sym o) (done-written B 0 o e)
+  bounded-done B o e = answer-parts withBound (sym o) (done-written B 0 o e)
 
   pub decrypted-refused : {n : ℕ} (b : ℕ) → n ≡ firstOf rows → n ≢ 0 → withBit n 0 0 ≡ decrypted rows b
-  decrypted-refused b e h = three withBit e (refused-kept b 0 e h)
+  decrypted-refused b e h = answer-parts withBit e (refused-kept b 0 e h)
 
   pub decrypted-done : {x : ℕ} (b : ℕ) → firstOf rows ≡ 0 → x ≡ b → decryptsTo x ≡ decrypted rows b
-  decrypted-done b o e = three withBit (sym o) (done-written b 0 o e)
+  decrypted-done b o e = answer-parts withBit (sym o) (done-written b 0 o e)
 
 -- ---- the sum m − x + e, of which each part is at most 2^60 in size: nothing on the way wraps
 

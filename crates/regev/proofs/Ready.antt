@@ -17,9 +17,9 @@ use Rattle.scheme.specs.Calls.{EncryptLoans, encryptRows, DecryptLoans, decrypt
 use Rattle.scheme.specs.Passed.{params-in-range, length-is, key-within, bit-within, entries-inside, errors-within}
 use Rattle.modular.specs.Loans.{Modulus}
 use Rattle.keys.specs.Chain.{params-modulus}
-use Rattle.regev.specs.Ready.{EncryptReady}
+use Rattle.regev.specs.Ready.{EncryptIntoReady}
 
-pub encrypt-ready : (a : EncryptLoans) → firstOf (encryptRows a) ≡ 0 → EncryptReady (a .p .q) (a .key) (a .bit) (a .mask) (a .error) (a .result)
+pub encrypt-ready : (a : EncryptLoans) → firstOf (encryptRows a) ≡ 0 → EncryptIntoReady (a .p .q) (a .key) (a .bit) (a .mask) (a .error) (a .result)
 unfolding positionIn order position inOrder encryptRows
 encrypt-ready a e =
     let t : Clear (encryptRows a) = first-clear (encryptRows a) refl e in

@@ -10,7 +10,7 @@ use Rattle.whole.specs.Inner.{sizes}
 use Rattle.scheme.specs.Arithmetic.{isResidue}
 use Rattle.modular.specs.Loans.{Modulus}
 
-pub record EncryptReady (q : ℕ) (s : List ℤ) (b : ℕ) (mask : List ℤ) (e : ℤ) (out : List ℤ) : Type 0 where
+pub record EncryptIntoReady (q : ℕ) (s : List ℤ) (b : ℕ) (mask : List ℤ) (e : ℤ) (out : List ℤ) : Type 0 where
   pub modulus : Modulus q
   pub key-long : length s ≡ length out
   pub mask-long : length mask + 1 ≡ length out

@@ -10,7 +10,7 @@ ghost use Rattle.refusal.specs.First.{firstOf};
 ghost use Rattle.scheme.specs.Arithmetic.{isResidue, encrypt, decrypt};
 ghost use Rattle.scheme.specs.Calls.{encryptLoans, encryptRows, EncryptPromise, decryptLoans, decryptRows, DecryptPromise};
 ghost use Rattle.modular.specs.Loans.{Modulus};
-ghost use Rattle.regev.specs.Ready.{EncryptReady};
+ghost use Rattle.regev.specs.Ready.{EncryptIntoReady};
 use keys::tests::is_bad_bit;
 use keys::tests::is_bad_key;
 use keys::tests::is_exceeding;
@@ -45,7 +45,7 @@ fn encrypt_number(p: Params, s: &[i32], bit: u32, mask: &[i64], error: i64, out:
 
 // Entry 0 of the encryption, and then the mask.
 fn encrypt_into(q: u32, s: &[i32], bit: u32, mask: &[i64], error: i64, out: &mut [i64])
-    requires { ⌜ EncryptReady q (now s) bit (now mask) error (now out) ⌝ }
+    requires { ⌜ EncryptIntoReady q (now s) bit (now mask) error (now out) ⌝ }
     ensures { λ r. ⌜ now (out .exit) ≡ encrypt q (now (s .entry)) bit (now (mask .entry)) error ⌝ }
 {
     let half = (q as i64) / 2;

@@ -22,7 +22,7 @@ use Rattle.scheme.specs.Passed.{params-in-range, length-is, key-within, entries
 use Rattle.modular.specs.Loans.{Modulus, UpTo, square}
 use Rattle.modular.specs.Residues.{residues-upto}
 use Rattle.keys.specs.Chain.{params-modulus}
-use Rattle.switchingkey.specs.Ready.{FillReady, MakeKeyReady}
+use Rattle.switchingkey.specs.Ready.{FillRowZeroReady, MakeKeyReady}
 
 -- ---- what success tells
 
@@ -63,7 +63,7 @@ make-key-ready a e =
     }
 
 -- row 0 may then be filled
-pub fill-ready : {a : MakeKeyLoans} → MakeKeyReady a → (out : List ℤ) → length out ≡ length (a .errors) → FillReady (a .p .q) (a .key) (a .masks) (a .errors) out
+pub fill-ready : {a : MakeKeyLoans} → MakeKeyReady a → (out : List ℤ) → length out ≡ length (a .errors) → FillRowZeroReady (a .p .q) (a .key) (a .masks) (a .errors) out
 fill-ready r out e = record { row = r .row; errors-long = r .errors-long; errors-small = r .errors-small; room = e ∙ r .errors-long }
 
 -- ---- what is written

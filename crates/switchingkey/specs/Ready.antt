@@ -18,13 +18,13 @@ pub record RowZeroReady (q : ℕ) (s masks : List ℤ) : Type 0 where
   pub masks-small : UpTo 549755813888 masks
 
 -- its entry in the column j, which has this error
-pub record EntryReady (q : ℕ) (s masks : List ℤ) (error : ℤ) (j : ℕ) : Type 0 where
+pub record RowZeroEntryReady (q : ℕ) (s masks : List ℤ) (error : ℤ) (j : ℕ) : Type 0 where
   pub row : RowZeroReady q s masks
   pub error-small : natAbs error ≤ 65535
   pub column : j < length s * length s
 
 -- all of it, with an error for each column, into a buffer
-pub record FillReady (q : ℕ) (s masks errors out : List ℤ) : Type 0 where
+pub record FillRowZeroReady (q : ℕ) (s masks errors out : List ℤ) : Type 0 where
   pub row : RowZeroReady q s masks
   pub errors-long : length errors ≡ length s * length s
   pub errors-small : UpTo 65535 errors

@@ -12,7 +12,7 @@ ghost use Rattle.whole.specs.Lists.{tabulate};
 ghost use Rattle.refusal.specs.First.{firstOf};
 ghost use Rattle.scheme.specs.Arithmetic.{maskColumn, rowZeroEntry};
 ghost use Rattle.scheme.specs.Calls.{makeKeyLoans, makeKeyRows, MakeKeyPromise};
-ghost use Rattle.switchingkey.specs.Ready.{EntryReady, FillReady};
+ghost use Rattle.switchingkey.specs.Ready.{RowZeroEntryReady, FillRowZeroReady};
 use keys::tests::is_bad_key;
 use keys::tests::is_exceeding;
 use keys::tests::is_outside_big;
@@ -25,7 +25,7 @@ use refusal::Refusal;
 
 // Row 0, column j of a switching key: [q·su·sv - <s',mask column j> + fj]Q for j = u·n+v.
 fn row_zero_entry(q: u32, s: &[i32], masks: &[i64], error: i64, j: usize) -> BigResidue
-    requires { ⌜ EntryReady q (now s) (now masks) error j ⌝ }
+    requires { ⌜ RowZeroEntryReady q (now s) (now masks) error j ⌝ }
     ensures { λ r. ⌜ r .0 ≡ centred (q * q) (pos q *ℤ getD (now (s .entry)) (j / length (now (s .entry))) (pos 0) *ℤ getD (now (s .entry)) (j % length (now (s .entry))) (pos 0) -ℤ inner (drop 1 (now (s .entry))) (maskColumn (length (now (s .entry))) (now (masks .entry)) j) +ℤ error) ⌝ }
 {
     let n = s.len();
@@ -35,7 +35,7 @@ fn row_zero_entry(q: u32, s: &[i32], masks: &[i64], error: i64, j: usize) -> Big
 
 // Row 0 of a switching key.
 fn fill_row_zero(q: u32, s: &[i32], masks: &[i64], errors: &[i64], out: &mut [i64])
-    requires { ⌜ FillReady q (now s) (now masks) (now errors) (now out) ⌝ }
+    requires { ⌜ FillRowZeroReady q (now s) (now masks) (now errors) (now out) ⌝ }
     ensures { λ r. ⌜ now (out .exit) ≡ tabulate (length (now (s .entry)) * length (now (s .entry))) (rowZeroEntry (length (now (s .entry))) q (now (s .entry)) (now (masks .entry)) (now (errors .entry))) ⌝ }
 {
     let mut j = 0;

@@ -12,7 +12,7 @@ use Rattle.gates.proofs.and_into.Tie as tie
 fill-tensor-requires : tie.Need-fill-tensor-requires
 fill-tensor-requires c κs =
     let r = c .before .pre in
-    (r .modulus, r .left-inside, r .right-inside, rw (r .left-long, r .right-long) (r .scratch-long), omega (arith, r), omega (arith, r))
+    (r .modulus, (search), (search), rw (r .left-long, r .right-long) (r .scratch-long), omega arith, omega arith)
 
 -- the tensor fills the scratch
 long : (t : tie.After-fill-tensor) → length (t .fill-tensor .last .1 .1 .1 .0) ≡ length (t .before .before .args .scratch .now)

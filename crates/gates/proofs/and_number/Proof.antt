@@ -14,7 +14,7 @@ use Rattle.refusal.specs.Order.{positionIn, order, position, inOrder, first-cle
 use Rattle.refusal.specs.Parameters.{InRange}
 use Rattle.scheme.specs.Calls.{badParams, AndLoans, andLoans, andRows}
 use Rattle.scheme.specs.Passed.{bound-fits}
-use Rattle.keys.specs.Chain.{params-modulus, answered-range, Gives, given, stops, passes, asks, none, either}
+use Rattle.keys.specs.Chain.{params-modulus, answered-range, Gives, given, stops, passes, asks, no-rows, or-same}
 use Rattle.gates.proofs.and_number.Statement.{statement}
 use Rattle.gates.proofs.and_number.Tie as tie
 
@@ -49,8 +49,8 @@ returns-2 c =
     given (andRows (loans (a .before .before)))
     (passes (ap not (a .before .in-range .ensures)) (a .if1 .left)
     (stops
-    (either
-    (either (either (either (x .before .before .length-differs .ensures) (x .before .length-differs2 .ensures)) (x .length-differs3 .ensures))
+    (or-same
+    (or-same (or-same (or-same (x .before .before .length-differs .ensures) (x .before .length-differs2 .ensures)) (x .length-differs3 .ensures))
     (d .before .length-differs4 .ensures))
     (d .length-differs5 .ensures))
     (c .if2 .taken)))
@@ -84,8 +84,8 @@ past c later =
     given (andRows (loans (start c)))
     (passes (ap not (a .before .in-range .ensures)) (a .if1 .left)
     (passes
-    (either
-    (either (either (either (x .before .before .length-differs .ensures) (x .before .length-differs2 .ensures)) (x .length-differs3 .ensures))
+    (or-same
+    (or-same (or-same (or-same (x .before .before .length-differs .ensures) (x .before .length-differs2 .ensures)) (x .length-differs3 .ensures))
     (d .before .length-differs4 .ensures))
     (d .length-differs5 .ensures))
     (c .if2 .left)
@@ -104,8 +104,8 @@ module _ (c : tie.After-row2) where
       let v = c .before .before in
       let o = v .before .before in
       given (front lent)
-      (asks (c .row2 .ensures) (either (either (o .before .before .is-outside .ensures) (o .before .is-outside2 .ensures)) (o .is-outside-big .ensures))
-      (asks (c .before .row .ensures) (either (v .before .is-over .ensures) (v .is-over2 .ensures)) none))
+      (asks (c .row2 .ensures) (or-same (or-same (o .before .before .is-outside .ensures) (o .before .is-outside2 .ensures)) (o .is-outside-big .ensures))
+      (asks (c .before .row .ensures) (or-same (v .before .is-over .ensures) (v .is-over2 .ensures)) no-rows))
 
 clear : (c : tie.Else3) → Clear (front (lent (c .before)))
 unfolding positionIn order position inOrder andRows
@@ -131,7 +131,7 @@ returns-4 c =
     let e = c .before .before .before in
     let r = e .before in
     past (tested r)
-    (given (last (lent r)) (asks (c .row3 .ensures) (rw (c .before .before .and-bound .ensures .0) at (c .before .is-over3 .ensures)) none)
+    (given (last (lent r)) (asks (c .row3 .ensures) (rw (c .before .before .and-bound .ensures .0) at (c .before .is-over3 .ensures)) no-rows)
     ∙ sym (first-rest (front (lent r)) (last (lent r)) (clear e)))
 
 pub and-number-spec : {M : Type 1} → statement M

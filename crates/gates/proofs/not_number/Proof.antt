@@ -3,7 +3,7 @@ use mathlib.Core.Path.{_≡_, ap}
 use mathlib.Core.Bool.{not}
 use borrow.Author.Needs.{needs}
 use Rattle.scheme.specs.Calls.{badParams, NotLoans, notLoans, notRows}
-use Rattle.keys.specs.Chain.{params-modulus, answered-range, given, stops, passes, asks, none, either}
+use Rattle.keys.specs.Chain.{params-modulus, answered-range, given, stops, passes, asks, no-rows, or-same}
 use Rattle.gates.proofs.not_number.Statement.{statement}
 use Rattle.gates.proofs.not_number.Tie as tie
 
@@ -25,7 +25,7 @@ returns-2 c =
     let a = d .before .before .before in
     given (notRows (loans (a .before .before)))
     (passes (ap not (a .before .in-range .ensures)) (a .if1 .left)
-    (stops (either (d .before .length-differs .ensures) (d .length-differs2 .ensures)) (c .if2 .taken)))
+    (stops (or-same (d .before .length-differs .ensures) (d .length-differs2 .ensures)) (c .if2 .taken)))
 
 is-outside-requires : tie.Need-is-outside-requires
 is-outside-requires c κs =
@@ -41,9 +41,9 @@ returns-3 c =
     let a = ranged e in
     given (notRows (loans (a .before .before)))
     (passes (ap not (a .before .in-range .ensures)) (a .if1 .left)
-    (passes (either (d .before .length-differs .ensures) (d .length-differs2 .ensures)) (e .if2 .left)
+    (passes (or-same (d .before .length-differs .ensures) (d .length-differs2 .ensures)) (e .if2 .left)
     (asks (c .row2 .ensures) (o .is-outside .ensures)
-    (asks (o .before .row .ensures) (o .before .before .is-over .ensures) none))))
+    (asks (o .before .row .ensures) (o .before .before .is-over .ensures) no-rows))))
 
 pub not-number-spec : {M : Type 1} → statement M
 not-number-spec =

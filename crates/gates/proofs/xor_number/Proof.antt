@@ -5,7 +5,7 @@ use borrow.Author.Needs.{needs}
 use Rattle.refusal.specs.Parameters.{InRange}
 use Rattle.scheme.specs.Arithmetic.{XOR-bound}
 use Rattle.scheme.specs.Calls.{badParams, XorLoans, xorLoans, xorRows}
-use Rattle.keys.specs.Chain.{params-modulus, answered-range, given, stops, passes, asks, none, either}
+use Rattle.keys.specs.Chain.{params-modulus, answered-range, given, stops, passes, asks, no-rows, or-same}
 use Rattle.gates.proofs.xor_number.Statement.{statement}
 use Rattle.gates.proofs.xor_number.Tie as tie
 
@@ -30,7 +30,7 @@ returns-2 c =
     let a = d .before .before .before .before in
     given (xorRows (loans (a .before .before)))
     (passes (ap not (a .before .in-range .ensures)) (a .if1 .left)
-    (stops (either (either (d .before .before .length-differs .ensures) (d .before .length-differs2 .ensures)) (d .length-differs3 .ensures)) (c .if2 .taken)))
+    (stops (or-same (or-same (d .before .before .length-differs .ensures) (d .before .length-differs2 .ensures)) (d .length-differs3 .ensures)) (c .if2 .taken)))
 
 is-outside-requires : tie.Need-is-outside-requires
 is-outside-requires c κs = params-modulus (range (c .before .before .before .before .before))
@@ -48,10 +48,10 @@ returns-3 c =
     let a = ranged e in
     given (xorRows (loans (a .before .before)))
     (passes (ap not (a .before .in-range .ensures)) (a .if1 .left)
-    (passes (either (either (d .before .before .length-differs .ensures) (d .before .length-differs2 .ensures)) (d .length-differs3 .ensures)) (e .if2 .left)
-    (asks (c .row3 .ensures) (either (o .before .is-outside .ensures) (o .is-outside2 .ensures))
-    (asks (o .before .before .row2 .ensures) (either (v .before .is-over2 .ensures) (v .is-over3 .ensures))
-    (asks (v .before .before .row .ensures) (v .before .before .before .is-over .ensures) none)))))
+    (passes (or-same (or-same (d .before .before .length-differs .ensures) (d .before .length-differs2 .ensures)) (d .length-differs3 .ensures)) (e .if2 .left)
+    (asks (c .row3 .ensures) (or-same (o .before .is-outside .ensures) (o .is-outside2 .ensures))
+    (asks (o .before .before .row2 .ensures) (or-same (v .before .is-over2 .ensures) (v .is-over3 .ensures))
+    (asks (v .before .before .row .ensures) (v .before .before .before .is-over .ensures) no-rows)))))
 
 pub xor-number-spec : {M : Type 1} → statement M
 xor-number-spec =

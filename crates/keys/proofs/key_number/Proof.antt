@@ -3,7 +3,7 @@ use mathlib.Core.Path.{_≡_, sym, ap, _∙_}
 use mathlib.Core.Bool.{not}
 use borrow.Author.Needs.{needs}
 use Rattle.scheme.specs.Calls.{badParams, KeyCheckLoans, keyCheckLoans, keyCheckRows}
-use Rattle.keys.specs.Chain.{short, answered-range, given, stops, passes, asks, none}
+use Rattle.keys.specs.Chain.{short, answered-range, given, stops, passes, asks, no-rows}
 use Rattle.keys.proofs.key_number.Statement.{statement}
 use Rattle.keys.proofs.key_number.Tie as tie
 
@@ -35,7 +35,7 @@ returns-3 c =
     given (keyCheckRows (loans (a .before .before)))
     (passes (ap not (a .before .in-range .ensures)) (a .if1 .left)
     (passes (e .before .length-differs .ensures) (e .if2 .left)
-    (asks (c .row .ensures) (c .before .is-bad-key .ensures) none)))
+    (asks (c .row .ensures) (c .before .is-bad-key .ensures) no-rows)))
 
 pub key-number-spec : {M : Type 1} → statement M
 key-number-spec =

@@ -5,7 +5,7 @@ use borrow.Author.Needs.{needs}
 use Rattle.whole.specs.Tests.{or-left}
 use Rattle.refusal.specs.Parameters.{InRange}
 use Rattle.scheme.specs.Calls.{badParams, DecryptLoans, decryptLoans, decryptRows}
-use Rattle.keys.specs.Chain.{params-modulus, short, answered-range, given, stops, passes, asks, none, either}
+use Rattle.keys.specs.Chain.{params-modulus, short, answered-range, given, stops, passes, asks, no-rows, or-same}
 use Rattle.regev.proofs.decrypt_number.Statement.{statement}
 use Rattle.regev.proofs.decrypt_number.Tie as tie
 
@@ -30,7 +30,7 @@ returns-2 c =
     let a = d .before .before .before in
     given (decryptRows (loans (a .before .before)))
     (passes (ap not (a .before .in-range .ensures)) (a .if1 .left)
-    (stops (either (d .before .length-differs .ensures) (d .length-differs2 .ensures)) (c .if2 .taken)))
+    (stops (or-same (d .before .length-differs .ensures) (d .length-differs2 .ensures)) (c .if2 .taken)))
 
 is-outside-requires : tie.Need-is-outside-requires
 is-outside-requires c κs = params-modulus (range (ranged c))
@@ -48,9 +48,9 @@ returns-3 c =
     let a = ranged e in
     given (decryptRows (loans (a .before .before)))
     (passes (ap not (a .before .in-range .ensures)) (a .if1 .left)
-    (passes (either (d .before .length-differs .ensures) (d .length-differs2 .ensures)) (e .if2 .left)
+    (passes (or-same (d .before .length-differs .ensures) (d .length-differs2 .ensures)) (e .if2 .left)
     (asks (c .row2 .ensures) (c .before .is-bad-key .ensures)
-    (asks (c .before .before .row .ensures) (c .before .before .before .is-outside .ensures) none))))
+    (asks (c .before .before .row .ensures) (c .before .before .before .is-outside .ensures) no-rows))))
 
 pub decrypt-number-spec : {M : Type 1} → statement M
 decrypt-number-spec =

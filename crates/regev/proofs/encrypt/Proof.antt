@@ -1,5 +1,5 @@
 -- `cipher::encrypt` answers the number that `encrypt_number` ensures and leaves the buffer as found, and where it is 0 the bound E with
--- the ciphertext that `encrypt_into` ensures, of which what it asks is in `EncryptReady`.
+-- the ciphertext that `encrypt_into` ensures, of which what it asks is in `EncryptIntoReady`.
 use mathlib.Core.Path.{_≡_, refl, sym, _∙_}
 use mir.Facts.{toZ-ofZ}
 use borrow.Author.Needs.{needs}

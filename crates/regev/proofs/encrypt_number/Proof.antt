@@ -7,7 +7,7 @@ use borrow.Author.Needs.{needs}
 use Rattle.whole.specs.Tests.{or-left}
 use Rattle.refusal.specs.Parameters.{InRange}
 use Rattle.scheme.specs.Calls.{badParams, EncryptLoans, encryptLoans, encryptRows}
-use Rattle.keys.specs.Chain.{params-modulus, short, answered-range, given, stops, passes, asks, none, either}
+use Rattle.keys.specs.Chain.{params-modulus, short, answered-range, given, stops, passes, asks, no-rows, or-same}
 use Rattle.regev.proofs.encrypt_number.Statement.{statement}
 use Rattle.regev.proofs.encrypt_number.Tie as tie
 
@@ -35,7 +35,7 @@ returns-2 c =
     let a = d .before .before .before .before in
     given (encryptRows (loans (a .before .before)))
     (passes (ap not (a .before .in-range .ensures)) (a .if1 .left)
-    (stops (either (either (d .before .before .length-differs .ensures) (d .before .length-differs2 .ensures)) (d .length-differs3 .ensures)) (c .if2 .taken)))
+    (stops (or-same (or-same (d .before .before .length-differs .ensures) (d .before .length-differs2 .ensures)) (d .length-differs3 .ensures)) (c .if2 .taken)))
 
 is-outside-requires : tie.Need-is-outside-requires
 is-outside-requires c κs = params-modulus (range (ranged (c .before .before .before)))
@@ -54,12 +54,12 @@ returns-3 c =
     let a = ranged e in
     given (encryptRows (loans (a .before .before)))
     (passes (ap not (a .before .in-range .ensures)) (a .if1 .left)
-    (passes (either (either (d .before .before .length-differs .ensures) (d .before .length-differs2 .ensures)) (d .length-differs3 .ensures)) (e .if2 .left)
+    (passes (or-same (or-same (d .before .before .length-differs .ensures) (d .before .length-differs2 .ensures)) (d .length-differs3 .ensures)) (e .if2 .left)
     (asks (c .row4 .ensures) (c .before .is-bad-key .ensures)
     (asks (c .before .before .row3 .ensures) (c .before .before .before .is-bad-bit .ensures)
     (asks (c .before .before .before .before .row2 .ensures) (c .before .before .before .before .before .is-outside .ensures)
     (asks (c .before .before .before .before .before .before .row .ensures) (rw (toZ-ofZ (a .before .before .fits .error)) at (x .is-exceeding .ensures))
-    none))))))
+    no-rows))))))
 
 pub encrypt-number-spec : {M : Type 1} → statement M
 encrypt-number-spec =

@@ -8,7 +8,7 @@ use borrow.Author.Needs.{needs}
 use Rattle.whole.specs.Tests.{or-left}
 use Rattle.refusal.specs.Parameters.{InRange}
 use Rattle.scheme.specs.Calls.{badParams, MakeKeyLoans, makeKeyLoans, makeKeyRows}
-use Rattle.keys.specs.Chain.{params-modulus, short, answered-range, given, stops, passes, asks, none, either}
+use Rattle.keys.specs.Chain.{params-modulus, short, answered-range, given, stops, passes, asks, no-rows, or-same}
 use Rattle.switchingkey.proofs.make_key_number.Statement.{statement}
 use Rattle.switchingkey.proofs.make_key_number.Tie as tie
 
@@ -53,7 +53,7 @@ returns-2 c =
     given (makeKeyRows (loans (a .before .before)))
     (passes (ap not (a .before .in-range .ensures)) (a .if1 .left)
     (stops
-    (either (either (either (x .before .length-differs .ensures) (x .length-differs2 .ensures)) (d .before .length-differs3 .ensures)) (d .length-differs4 .ensures))
+    (or-same (or-same (or-same (x .before .length-differs .ensures) (x .length-differs2 .ensures)) (d .before .length-differs3 .ensures)) (d .length-differs4 .ensures))
     (c .if2 .taken)))
 
 is-outside-big-requires : tie.Need-is-outside-big-requires
@@ -74,11 +74,11 @@ returns-3 c =
     given (makeKeyRows (loans (a .before .before)))
     (passes (ap not (a .before .in-range .ensures)) (a .if1 .left)
     (passes
-    (either (either (either (x .before .length-differs .ensures) (x .length-differs2 .ensures)) (d .before .length-differs3 .ensures)) (d .length-differs4 .ensures))
+    (or-same (or-same (or-same (x .before .length-differs .ensures) (x .length-differs2 .ensures)) (d .before .length-differs3 .ensures)) (d .length-differs4 .ensures))
     (e .if2 .left)
     (asks (c .row3 .ensures) (c .before .is-bad-key .ensures)
     (asks (c .before .before .row2 .ensures) (c .before .before .before .is-outside-big .ensures)
-    (asks (c .before .before .before .before .row .ensures) (c .before .before .before .before .before .is-exceeding .ensures) none)))))
+    (asks (c .before .before .before .before .row .ensures) (c .before .before .before .before .before .is-exceeding .ensures) no-rows)))))
 
 pub make-key-number-spec : {M : Type 1} → statement M
 make-key-number-spec =

@@ -7,7 +7,7 @@ use Rattle.bench.proofs.ciphers.bench_not.Statement.{statement}
 use Rattle.bench.proofs.ciphers.bench_not.Tie as tie
 
 returns : tie.Need-returns
-returns c = (ap (λ (r : Bounded). r .number) (c .before .not .ensures .0), c .before .not .ensures .1)
+returns c = (ap (λ (r : Bounded). r .number) (c .before .not .ensures .answer), c .before .not .ensures .result-left)
 
 pub bench-not-spec : {M : Type 1} → statement M
 bench-not-spec = tie.close (tie.spec (λ c κs. search needs) (λ c. search needs) returns)

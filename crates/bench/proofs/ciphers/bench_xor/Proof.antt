@@ -7,7 +7,7 @@ use Rattle.bench.proofs.ciphers.bench_xor.Statement.{statement}
 use Rattle.bench.proofs.ciphers.bench_xor.Tie as tie
 
 returns : tie.Need-returns
-returns c = (ap (λ (r : Bounded). r .number) (c .before .xor .ensures .0), c .before .xor .ensures .1)
+returns c = (ap (λ (r : Bounded). r .number) (c .before .xor .ensures .answer), c .before .xor .ensures .result-left)
 
 pub bench-xor-spec : {M : Type 1} → statement M
 bench-xor-spec = tie.close (tie.spec (λ c κs. search needs) (λ c. search needs) returns)

@@ -10,7 +10,7 @@ use Rattle.whole.specs.Tests.{or-left, or-neither}
 use Rattle.refusal.specs.Parameters.{sheet, sheets, sheetTable, sheet-in-range}
 use Rattle.scheme.specs.Calls.{badParams, differs, MakeKeyLoans, makeKeyRows, benchLoans}
 use Rattle.scheme.specs.Passed.{length-is, lengths-same}
-use Rattle.keys.specs.Chain.{given, stops, passes, asks, none, either}
+use Rattle.keys.specs.Chain.{given, stops, passes, asks, no-rows, or-same}
 use Rattle.switchingkey.proofs.bench.bench_number.Statement.{statement}
 use Rattle.switchingkey.proofs.bench.bench_number.Tie as tie
 
@@ -30,7 +30,7 @@ returns c =
     let d = c .before in
     given (makeKeyRows (loans (d .before .before .before)))
     (passes refl sheet-good
-    (stops (either (either (either (d .before .before .length-differs .ensures) (d .before .length-differs2 .ensures)) (d .length-differs3 .ensures)) room) (rw (c .if1 .taken))))
+    (stops (or-same (or-same (or-same (d .before .before .length-differs .ensures) (d .before .length-differs2 .ensures)) (d .length-differs3 .ensures)) room) (rw (c .if1 .taken))))
 
 is-bad-key-requires : tie.Need-is-bad-key-requires
 is-bad-key-requires c κs =
@@ -44,10 +44,10 @@ returns-2 c =
     let d = e .before in
     given (makeKeyRows (loans (d .before .before .before)))
     (passes refl sheet-good
-    (passes (either (either (either (d .before .before .length-differs .ensures) (d .before .length-differs2 .ensures)) (d .length-differs3 .ensures)) room) (or-neither (e .if1 .left) refl)
+    (passes (or-same (or-same (or-same (d .before .before .length-differs .ensures) (d .before .length-differs2 .ensures)) (d .length-differs3 .ensures)) room) (or-neither (e .if1 .left) refl)
     (asks (c .row3 .ensures) (c .before .is-bad-key .ensures)
     (asks (c .before .before .row2 .ensures) (c .before .before .before .is-outside-big .ensures)
-    (asks (c .before .before .before .before .row .ensures) (c .before .before .before .before .before .is-exceeding .ensures) none)))))
+    (asks (c .before .before .before .before .row .ensures) (c .before .before .before .before .before .is-exceeding .ensures) no-rows)))))
 
 pub bench-number-spec : {M : Type 1} → statement M
 bench-number-spec =
