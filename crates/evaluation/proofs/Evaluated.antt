@@ -5,17 +5,16 @@ use mathlib.Core.Logic.{_≢_}
 use mathlib.Core.List.{List, [], _∷_, _++_, flatten}
 use Prim.Native.Nat.{ℕ, _*_}
 use lib.IntN.{ℤ, pos}
-use lib.ListN.{take, replicate}
-use Rattle.whole.specs.Tests.{or-neither}
+use lib.ListN.{replicate}
 use Rattle.whole.specs.Lists.{cut}
 use Rattle.refusal.specs.declared.Refusal.{Refusal}
-use Rattle.refusal.specs.First.{Row, refused, firstOf, Clear, areSingle, first-front, answer-rest, doneOr-done, doneOr-refused}
-use Rattle.scheme.specs.Passed.{lengths-same}
+use Rattle.refusal.specs.First.{Row, refused, firstOf, areSingle, first-front, doneOr-done, doneOr-refused}
 use Rattle.circuit.specs.Circuits.{wiresOf}
-use Rattle.circuit.specs.Plan.{stated, statedRow, circuitRows, planFront, planRows, planAnswer, planBounds, PlanPromise}
+use Rattle.circuit.specs.Plan.{stated, statedRow, planAnswer, planBounds, PlanPromise}
 use Rattle.circuit.specs.Evaluate.{EvaluateLoans, evaluateFront, evaluateRows, evaluateAnswer, evaluateWires, evaluateBounds, evaluateScratch, EvaluatePromise}
 use Rattle.circuit.specs.Answers.{answered-early}
-use Rattle.circuit.specs.Passed.{EvaluatePassed, evaluate-clear, evaluate-passed}
+use Rattle.circuit.specs.Passed.{evaluate-clear}
+use Rattle.circuit.specs.Exact.{plan-agrees}
 
 module _ (a : EvaluateLoans) where
   answer-number : {r : Refusal} → r ≡ evaluateAnswer a → r .number ≡ firstOf (evaluateRows a)
@@ -47,29 +46,15 @@ module _ (a : EvaluateLoans) where
   -- ---- it does not: what is left is planning's
 
   module _ (front : firstOf (evaluateFront a) ≡ 0) where
-    late-answer : planAnswer (a .plan) ≡ evaluateAnswer a
-    unfolding planAnswer planRows planFront evaluateAnswer evaluateRows
-    late-answer =
-        let l = a .plan in
-        let late : List Row = statedRow l ∷ circuitRows l in
-        let clear : Clear (evaluateFront a) = evaluate-clear a front in
-        let h : EvaluatePassed a = evaluate-passed a clear in
-        let three = or-neither (h .even) (lengths-same _ _ (h .bounds-long)) in
-        let before : Clear (take 3 (planFront l)) = ((h .params, tt), ((h .counts, tt), ((three, tt), tt))) in
-        answer-rest (take 3 (planFront l)) late before ∙ sym (answer-rest (evaluateFront a) late clear)
-
-    late-bounds : planBounds (a .plan) ≡ evaluateBounds a
-    unfolding planAnswer evaluateAnswer planBounds evaluateBounds
-    late-bounds =
-        let same : firstOf (planRows (a .plan)) ≡ firstOf (evaluateRows a) = ap (λ (r : Refusal). r .number) late-answer in
-        rw same
+    late : (planAnswer (a .plan) ≡ evaluateAnswer a) × (planBounds (a .plan) ≡ evaluateBounds a)
+    late = plan-agrees a (evaluate-clear a front)
 
     module _ {r : Refusal} {bounds : List ℕ} (planned : PlanPromise (a .plan) r bounds) where
       answer : r ≡ evaluateAnswer a
-      answer = planned .answer ∙ late-answer
+      answer = planned .answer ∙ late .0
 
       pub evaluated-late : r .number ≢ 0 → EvaluatePromise a r (a .wires) bounds (a .scratch)
-      evaluated-late h = evaluated-refused answer h (planned .bounds-left ∙ late-bounds)
+      evaluated-late h = evaluated-refused answer h (planned .bounds-left ∙ late .1)
 
       -- ---- neither refuses
 
@@ -86,6 +71,6 @@ module _ (a : EvaluateLoans) where
             record {
               answer = answer;
               wires-left = w ∙ sym (doneOr-done _ _ evaluated-clear);
-              bounds-left = planned .bounds-left ∙ late-bounds;
+              bounds-left = planned .bounds-left ∙ late .1;
               scratch-left = s ∙ sym (doneOr-done _ _ evaluated-clear);
             }

@@ -111,8 +111,3 @@ unfolding decrypt
 decrypt-right q s c zero h even bit quiet = rw (← noise-zero, le-ltb q (4 * noise q s c 0) (omega arith))
 decrypt-right q s c (suc zero) h even bit quiet = rw (← noise-zero, lt-ltb q (4 * noise q s c 0) (omega (arith, noise-both q s c h even)))
 decrypt-right q s c (suc (suc b)) h even bit quiet = absurd (omega arith)
-
--- a fresh ciphertext decrypts to its bit where four times its error is below q in size
-pub decrypt-fresh : (q : ℕ) (s : List ℤ) (b : ℕ) (a : List ℤ) (e : ℤ) → 0 < q → q ≡ 2 * (q / 2) → getD s 0 (pos 0) ≡ pos 1 → b ≤ 1 → 4 * natAbs e < q
-    → decrypt q s (encrypt q s b a e) ≡ b
-decrypt-fresh q s b a e h even one bit small = decrypt-right q s (encrypt q s b a e) b h even bit (omega (arith, encrypt-noise q s b a e h one))

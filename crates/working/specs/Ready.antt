@@ -43,7 +43,7 @@ pub room-kept : {p : Params} {c d new other : List ℤ} → RoomReady p c d → 
 room-kept r left right = record { left-long = left ∙ r .left-long; right-long = right ∙ r .right-long }
 
 -- the gate that makes the wire `own`: it is not wrong, the wires before its own are there, and the buffer has room for its own
-pub record GateReady (p : Params) (g : Gate) (own : ℕ) (wires W c d scratch : List ℤ) : Type 0 where
+pub record WorkGateReady (p : Params) (g : Gate) (own : ℕ) (wires W c d scratch : List ℤ) : Type 0 where
   pub key : KeyReady p W scratch
   pub room : RoomReady p c d
   pub own-inside : own * p .n + p .n ≤ length wires
@@ -51,7 +51,7 @@ pub record GateReady (p : Params) (g : Gate) (own : ℕ) (wires W c d scratch : 
   pub gate-right : wrongGate own g ≡ false
 
 -- its operands and its own stretch
-pub record WireReady (p : Params) (c d W scratch out : List ℤ) : Type 0 where
+pub record MakeWireReady (p : Params) (c d W scratch out : List ℤ) : Type 0 where
   pub key : KeyReady p W scratch
   pub left : Wire p c
   pub right : Wire p d

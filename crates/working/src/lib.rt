@@ -7,7 +7,7 @@ ghost use lib.ListN.{take, drop, replicate};
 ghost use Rattle.whole.specs.Lists.{cut};
 ghost use Rattle.scheme.specs.Arithmetic.{XOR, NOT, AND};
 ghost use Rattle.circuit.specs.Circuits.{gate, byKind, gateWire, wiresOf, records};
-ghost use Rattle.working.specs.Ready.{EvaluateReady, RoomReady, GateReady, WireReady};
+ghost use Rattle.working.specs.Ready.{EvaluateReady, RoomReady, WorkGateReady, MakeWireReady};
 use gates::and_into;
 use gates::not_into;
 use gates::xor_into;
@@ -25,7 +25,7 @@ fn make_wire(
     scratch: &mut [i64],
     out: &mut [i64],
 )
-    requires { ⌜ WireReady p (now c) (now d) (now key) (now scratch) (now out) ⌝ }
+    requires { ⌜ MakeWireReady p (now c) (now d) (now key) (now scratch) (now out) ⌝ }
     ensures { λ r. ⌜ now (out .exit) ≡ byKind kind (XOR (p .q) (now (c .entry)) (now (d .entry))) (AND (p .n) (p .q) (now (key .entry)) (now (c .entry)) (now (d .entry))) (NOT (p .q) (now (c .entry))) ⌝ }
 {
     let q = p.q;
@@ -53,7 +53,7 @@ fn work_gate(
     d: &mut [i64],
     scratch: &mut [i64],
 )
-    requires { ⌜ GateReady p (gate kind left right) own (now wires) (now key) (now c) (now d) (now scratch) ⌝ }
+    requires { ⌜ WorkGateReady p (gate kind left right) own (now wires) (now key) (now c) (now d) (now scratch) ⌝ }
     ensures { λ r. ⌜ now (wires .exit) ≡ take (own * p .n) (now (wires .entry)) ++ (gateWire p (now (key .entry)) (gate kind left right) (cut (p .n) own (now (wires .entry))) ++ drop (own * p .n + p .n) (now (wires .entry))) ⌝ }
 {
     let n = p.n as usize;

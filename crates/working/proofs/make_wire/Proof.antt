@@ -9,6 +9,23 @@ use Rattle.circuit.specs.Records.{kind-neither}
 use Rattle.working.proofs.make_wire.Statement.{statement}
 use Rattle.working.proofs.make_wire.Tie as tie
 
+returns : tie.Need-returns
+unfolding byKind
+returns c = simp (c .before .before .before .if1 .taken) (c .before .xor-into .ensures)
+
+returns-2 : tie.Need-returns-2
+unfolding byKind
+returns-2 c =
+    let start = c .before .before .before .before .before .before .before in
+    simp (c .before .before .before .before .before .if2 .taken) (rw (start .pre .out-long) at (c .before .before .and-into .ensures .0))
+
+returns-3 : tie.Need-returns-3
+returns-3 c =
+    let e = c .before .before .before in
+    c .before .not-into .ensures ∙ sym (kind-neither (e .before .before .args .kind) _ _ _ (e .before .if1 .left) (e .if2 .left))
+
+-- ---- what the functions ask
+
 -- the operands are as long as the stretch
 left-long : (s : tie.Start) → length (s .args .c .now) ≡ length (s .args .out .now)
 left-long s = s .pre .left .long ∙ sym (s .pre .out-long)
@@ -44,21 +61,6 @@ not-into-requires c κs =
     let s = c .before .before .before in
     let r = s .pre in
     record { modulus = params-modulus (r .key .range); long = left-long s; not-empty = omega (arith, r .out-long, r .key .range .n-low); inside = r .left .inside }
-
-returns : tie.Need-returns
-unfolding byKind
-returns c = simp (c .before .before .before .if1 .taken) (c .before .xor-into .ensures)
-
-returns-2 : tie.Need-returns-2
-unfolding byKind
-returns-2 c =
-    let start = c .before .before .before .before .before .before .before in
-    simp (c .before .before .before .before .before .if2 .taken) (rw (start .pre .out-long) at (c .before .before .and-into .ensures .0))
-
-returns-3 : tie.Need-returns-3
-returns-3 c =
-    let e = c .before .before .before in
-    c .before .not-into .ensures ∙ sym (kind-neither (e .before .before .args .kind) _ _ _ (e .before .if1 .left) (e .if2 .left))
 
 pub make-wire-spec : {M : Type 1} → statement M
 make-wire-spec =

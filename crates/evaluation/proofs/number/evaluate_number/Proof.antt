@@ -11,7 +11,7 @@ use Rattle.whole.specs.Tests.{or-left, or-right}
 use Rattle.refusal.specs.Parameters.{InRange}
 use Rattle.scheme.specs.Calls.{badParams, differs}
 use Rattle.scheme.specs.Passed.{length-is}
-use Rattle.keys.specs.Chain.{params-modulus, answered-range, given, stops, passes, asks, none, either}
+use Rattle.keys.specs.Chain.{params-modulus, answered-range, given, stops, passes, asks, no-rows, or-same}
 use Rattle.circuit.specs.Circuits.{badCounts, asLists, unevenLists}
 use Rattle.circuit.specs.Plan.{planLoans, wireCount}
 use Rattle.circuit.specs.Evaluate.{EvaluateLoans, evaluateLoans, evaluateFront}
@@ -99,7 +99,7 @@ lengths d =
     let k = e .before in
     let b = k .before in
     let w = b .before in
-    either (either (either (either (either (w .before .length-differs .ensures) (w .length-differs2 .ensures)) (b .length-differs3 .ensures)) (k .length-differs4 .ensures)) (e .length-differs5 .ensures)) (d .length-differs6 .ensures)
+    or-same (or-same (or-same (or-same (or-same (w .before .length-differs .ensures) (w .length-differs2 .ensures)) (b .length-differs3 .ensures)) (k .length-differs4 .ensures)) (e .length-differs5 .ensures)) (d .length-differs6 .ensures)
 
 returns-3 : tie.Need-returns-3
 unfolding evaluateFront badParams
@@ -143,7 +143,7 @@ returns-4 c =
     (passes (ap not (a .before .in-range .ensures)) (a .if1 .left)
     (passes (e .before .are-bad-counts .ensures) (e .if2 .left)
     (passes (lengths (t .before)) (t .if3 .left)
-    (asks (c .row .ensures) (either (rw sub-zero at (o .before .is-outside .ensures)) (o .is-outside-big .ensures)) none))))
+    (asks (c .row .ensures) (or-same (rw sub-zero at (o .before .is-outside .ensures)) (o .is-outside-big .ensures)) no-rows))))
 
 pub evaluate-number-spec : {M : Type 1} → statement M
 evaluate-number-spec =
