@@ -7,11 +7,12 @@
     python3 tools/audit.py --page FOLDER...                        prints the tables of docs/AUDIT.md, from what was tried in those folders, and writes the
                                                                    listing, docs/audit_functions.tsv or docs/audit_definitions.tsv
 
-With --definitions the edits are of the definitions that docs/DEFINITIONS.md names, and else of every function of the engine's crates.
+With --definitions the edits are of the definitions that docs/DEFINITIONS.md names, of a record field by field, and else of every function of the engine's
+crates.
 
 An edit exchanges < and <=, + and -, == and !=, & and |, * and +, / and %, makes a number one more or one less, takes one of two like operands for the
-other (left for right, c for d), exchanges two neighbours in a list of arguments, drops a `!`, writes another letter, or gives a row of a refusal list the
-number of the row beside it. Comments, contracts and declarations are left alone. Each edit is tried by itself, over what is kept of the last check, so
+other (left for right, c for d), or one of two like fields, exchanges two neighbours in a list of arguments, drops a `!`, writes another letter, or gives a
+row of a refusal list the number of the row beside it. Comments, contracts and declarations are left alone. Each edit is tried by itself, over what is kept of the last check, so
 that only what it touches is proved again. It is refused, or accepted, or does not compile and says nothing. One that is accepted is tried from nothing.
 
 A wrong definition is tried on the crates of definitions and theorems alone, so that what refuses it is a figure, a law or a theorem, and never the code,
@@ -32,7 +33,7 @@ ENGINE = ("refusal", "modular", "keys", "tensor", "switch", "checks", "switching
 THEOREMS = ("whole", "refusal", "scheme", "noise", "circuit", "vouched", "circuitfile")
 RESULTS = "audit.tsv"
 REFUSED, ACCEPTED, BAD = "refused", "accepted", "does not compile"
-SHOWN_FIRST = (("Figures", "Ties", "Refusals", "Slips", "Example", "Witnesses", "Witness"), ("Wording", "Unique", "Lowest", "Exact", "Wrong", "Held"))
+SHOWN_FIRST = (("Figures", "Ties", "Refusals", "Slips", "Example", "Witnesses", "Witness"), ("Wording", "Unique", "Foremost", "Order", "Exact", "Held", "Lettered"))
 
 Tried = collections.namedtuple("Tried", "crate file line name old new verdict by")
 

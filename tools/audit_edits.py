@@ -8,14 +8,15 @@ NUMBER = re.compile(r"(?<![\w-])(?<!\w\.)\d+(?=(?:u8|u32|u64|i64|usize)?\b)(?!\.
 WORD = re.compile(r"(?<![\w.:'])[A-Za-z]\w*\b(?![:(!'])")
 ARGUMENTS = re.compile(r"\b([a-z]\w*), ([a-z]\w*)(?=[,)]| as )")
 LETTER = re.compile(r"(?<=\bb['\"])\w")
-ROW = re.compile(r"(?:return |row[ (])(\d+)")
+ROW = re.compile(r"(?:return |row[ (]|rowOf )(\d+)")
+FIELD = re.compile(r"(?<= \.)[a-z][\w-]*")
 
 
 class Language:
-    """How one of the two languages writes operators, what stands for what, and negation."""
+    """How one of the two languages writes operators, what stands for what, of fields of a record too, and negation."""
 
-    def __init__(self, exchanged, like, negation):
-        self.exchanged, self.like, self.negation = exchanged, like, re.compile(negation)
+    def __init__(self, exchanged, like, fields, negation):
+        self.exchanged, self.like, self.fields, self.negation = exchanged, like, fields, re.compile(negation)
         longest = sorted(exchanged, key=len, reverse=True)
         self.operator = re.compile("(?<![^ (])(" + "|".join(map(re.escape, longest)) + ")(?= )")
 
@@ -24,20 +25,23 @@ CODE = Language(
     {"<": "<=", "<=": "<", "+": "-", "-": "+", "+=": "-=", "==": "!=", "!=": "==", "&": "|", "|": "&", "*": "+", "/": "%", "%": "/", ">>": "<<"},
     (("left", "right"), ("lefts", "rights"), ("kinds", "lefts"), ("c", "d"), ("b1", "b2"), ("x", "y"), ("u", "v"), ("i", "j"), ("hi", "lo"), ("inputs", "gates"),
      ("n", "l"), ("l", "f"), ("low", "high"), ("masks", "errors"), ("number", "later")),
+    (),
     r"!(?=[\w(])",
 )
 LOGIC = Language(
     {"+": "-", "-": "+", "*": "+", "/": "%", "%": "/", "+ℤ": "-ℤ", "-ℤ": "+ℤ", "*ℤ": "+ℤ", "&&": "||", "||": "&&", "leb": "ltb", "ltb": "leb", "leZ": "ltZ",
-     "ltZ": "leZ", "take": "drop", "drop": "take"},
+     "ltZ": "leZ", "take": "drop", "drop": "take", "≤": "<", "<": "≤"},
     (("B1", "B2"), ("c", "d"), ("x", "y"), ("b1", "b2"), ("left", "right"), ("L", "F"), ("masks", "f"), ("true", "false"), ("s", "c"), ("n", "q"), ("l", "f"),
      ("q", "b"), ("ws", "gs"), ("inputs", "gates")),
+    (("left", "right"), ("left-bound", "right-bound"), ("n", "q"), ("l", "f"), ("e", "f"), ("masks", "errors"), ("key", "masks"), ("key", "mask"),
+     ("key", "ciphertext"), ("key", "wires"), ("key", "scratch"), ("wires", "scratch"), ("inputs", "count"), ("number", "place"), ("kind", "left")),
     r"\bnot (?=\()",
 )
 
 
 # names of one module each: a file that imports one of a pair is made to import both, so that the edit means something
 PARTNERS = (("leb", "ltb"), ("leZ", "ltZ"), ("take", "drop"), ("_*_", "_+_"), ("_+_", "_-_"), ("_/_", "_%_"), ("_*ℤ_", "_+ℤ_"), ("_+ℤ_", "_-ℤ_"), ("_&&_", "_||_"),
-            ("true", "false"))
+            ("true", "false"), ("_≤_", "_<_"))
 
 
 class Body:
@@ -45,7 +49,7 @@ class Body:
 
     def __init__(self, name, first, lines):
         self.name, self.first, self.lines = name, first, lines
-        self.words = set(WORD.findall("\n".join(lines)))
+        self.words, self.fields = set(WORD.findall("\n".join(lines))), set(FIELD.findall("\n".join(lines)))
         self.rows = [n for line in lines for n in ROW.findall(line)] if name.endswith(("number", "Rows")) else []
 
 
@@ -63,12 +67,12 @@ def code_bodies(text):
 
 
 def definition_bodies(text, names):
-    """The definitions of these names: the lines behind the type, up to the next empty one."""
+    """The definitions of these names: the lines behind the type, and of a record those of its fields, up to the next empty one."""
     lines = text.splitlines()
     for at, line in enumerate(lines):
-        head = re.match(r"(?:abbrev|unfoldable) pub (\S+) ", line)
+        head = re.match(r"(?:abbrev pub|unfoldable pub|pub record) (\S+) ", line)
         if head and head[1] in names:
-            start = next(k for k in range(at, len(lines)) if lines[k].startswith(head[1] + " "))
+            start = at + 1 if "record" in head[0] else next(k for k in range(at, len(lines)) if lines[k].startswith(head[1] + " "))
             close = next((k for k in range(start, len(lines)) if not lines[k].strip()), len(lines))
             yield Body(head[1], start, lines[start:close])
 
@@ -107,6 +111,10 @@ def variants(language, body, line):
         for pair in language.like:
             if found.group() in pair and body.words >= set(pair):
                 yield replaced(line, found, pair[1 - pair.index(found.group())])
+    for found in FIELD.finditer(line):
+        for pair in language.fields:
+            if found.group() in pair and body.fields >= set(pair):
+                yield replaced(line, found, pair[1 - pair.index(found.group())])
     for found in ARGUMENTS.finditer(line):
         yield replaced(line, found, f"{found.group(2)}, {found.group(1)}")
     for found in language.negation.finditer(line):
@@ -116,7 +124,10 @@ def variants(language, body, line):
 
 
 def head_of(body, line):
-    """The head of a clause, which names what it is given and is none of its text."""
+    """The head of a clause, which names what it is given and is none of its text; of a field, its name."""
+    field = re.match(r"  pub [\w-]+ : ", line)
+    if field:
+        return field[0]
     if not line.startswith(body.name + " "):
         return ""
     return line[:line.index(" = ") + 3] if " = " in line else line
