@@ -17,7 +17,7 @@ use Rattle.refusal.specs.First.{someTrue, none-at}
 use Rattle.scheme.specs.Calls.{differs, overBudget}
 use Rattle.scheme.specs.Passed.{length-is, lengths-same}
 use Rattle.circuit.specs.declared.Gate.{Gate}
-use Rattle.circuit.specs.Circuits.{gate, byKind, gateBound, wrongGate, wrongGates, boundsOf, overGates, records, unevenLists, Circuit, asRecords, asLists}
+use Rattle.circuit.specs.Circuits.{gate, byKind, gateBound, wrongGate, wrongGates, boundsOf, overGates, records, unevenLists, asRecords, asLists}
 use Rattle.circuit.specs.Run.{length-run}
 
 -- ---- the records

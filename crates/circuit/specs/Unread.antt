@@ -5,7 +5,7 @@ use mathlib.Core.List.{List, flatten}
 use Prim.Native.Nat.{ℕ, _*_}
 use lib.IntN.{ℤ}
 use lib.ListN.{length, take}
-use Rattle.whole.specs.Lists.{cut, cut-same}
+use Rattle.whole.specs.Lists.{cut-same}
 use Rattle.refusal.specs.First.{firstOf, doneOr, doneOr-done}
 use Rattle.circuit.specs.Circuits.{wiresOf}
 use Rattle.circuit.specs.Plan.{PlanLoans}

@@ -1,13 +1,13 @@
 -- Refusal for the budget is exact in the two calls that C makes, for every file: of the number and place that are answered as one number, 10 is given exactly
 -- where no earlier number applies and some gate's bound by the formula reaches q/4, and the place is the first such gate. And where planning answers 0, what it wrote
 -- are the bounds of the circuit in the file.
-use mathlib.Core.Path.{_≡_, refl, sym, ap, ap₂, _∙_}
+use mathlib.Core.Path.{_≡_, sym, ap₂, _∙_}
 use mathlib.Core.List.{List, [], _∷_, _++_, flatMap}
 use Prim.Native.Nat.{ℕ, _+_, _*_, _/_, _%_, _≤_, _<_}
 use native.Mathlib.Omega.{arith}
 use lib.ListN.{length}
 use Rattle.refusal.specs.declared.Refusal.{Refusal}
-use Rattle.refusal.specs.First.{Row, row, rowOf, refused, firstOf, answerOf, Clear, clear-append, doneOr-done}
+use Rattle.refusal.specs.First.{Row, row, rowOf, refused, firstOf, answerOf, Clear, doneOr-done}
 use Rattle.refusal.specs.Exact.{before, given-clear}
 use Rattle.circuit.specs.Circuits.{boundsOf, wrongGates, gateRows}
 use Rattle.circuit.specs.Exact.{boundAt, FirstOver, BudgetExact, gates-budget-exact}

@@ -9,7 +9,6 @@ use lib.ListN.{length, getD, List·getD-map}
 use borrow.Author.Tests.{ltb-true, leb-true, eqb-true, lt-ltb, le-ltb, le-leb, eq-eqb}
 use Rattle.whole.specs.Tests.{and-left, and-right, and-both}
 use Rattle.whole.specs.Lists.{every, every-getD}
-use Rattle.refusal.specs.declared.Refusal.{Refusal}
 use Rattle.refusal.specs.declared.Params.{Params}
 use Rattle.refusal.specs.declared.Made.{Made}
 use Rattle.refusal.specs.declared.Made.the-variants.{Set, Refused}

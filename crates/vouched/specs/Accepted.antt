@@ -14,7 +14,7 @@ use Rattle.refusal.specs.First.{firstOf, someTrue, none-true, none-at}
 use Rattle.scheme.specs.Arithmetic.{isResidue, fits}
 use Rattle.scheme.specs.Passed.{bound-fits, fits-below}
 use Rattle.circuit.specs.declared.Gate.{Gate}
-use Rattle.circuit.specs.Circuits.{gateBound, boundsOf, wrongGates, overGates, gateRows, Circuit}
+use Rattle.circuit.specs.Circuits.{gateBound, boundsOf, wrongGates, overGates, gateRows}
 use Rattle.circuit.specs.Plan.{PlanLoans, stated}
 use Rattle.circuit.specs.Evaluate.{EvaluateLoans, evaluateRows}
 use Rattle.circuit.specs.Passed.{EvaluateDone, evaluate-done}

@@ -1,6 +1,6 @@
 -- The proof of the theorem from key to letter (the file Letter): the maker builds the switching key, each fresh encryption is quiet within the bound that it states, and
 -- so the premises of demand 3 hold.
-use mathlib.Core.Path.{_≡_, refl, sym, subst, _∙_}
+use mathlib.Core.Path.{refl, sym, subst, _∙_}
 use mathlib.Core.List.{List}
 use Prim.Native.Nat.{ℕ}
 use lib.IntN.{ℤ}
@@ -10,7 +10,6 @@ use Rattle.scheme.specs.Calls.{encryptLoans}
 use Rattle.noise.specs.Sound.{Sound}
 use Rattle.noise.specs.Fresh.{Fresh, fresh}
 use Rattle.noise.specs.Built.{maker-builds, maker-key}
-use Rattle.vouched.specs.Demand3.{Premises}
 use Rattle.vouched.specs.Letter.{InputEncrypted, KeyToLetter}
 use Rattle.vouched.specs.Held.{demand-3}
 

@@ -7,7 +7,7 @@ use native.Mathlib.Nat.{le-refl}
 use native.Mathlib.Omega.{arith}
 use lib.Dec.{leb}
 use lib.IntN.{ℤ, pos}
-use lib.ListN.{length, getD, replicate}
+use lib.ListN.{getD, replicate}
 use borrow.Author.Tests.{leb-true}
 use Rattle.whole.specs.Tests.{eqZ}
 use Rattle.whole.specs.Round.{round}

@@ -3,7 +3,7 @@
 use mathlib.Core.Path.{_≡_, refl, sym, ap, _∙_}
 use mathlib.Core.Bool.{not}
 use mathlib.Core.List.{List, _++_}
-use Prim.Native.Nat.{ℕ, _*_}
+use Prim.Native.Nat.{ℕ}
 use native.Mathlib.Nat.{mul-le-mul}
 use native.Mathlib.Omega.{arith}
 use lib.ListN.{take, drop}
@@ -14,7 +14,7 @@ use Rattle.refusal.specs.Order.{positionIn, order, position, inOrder, first-cle
 use Rattle.refusal.specs.Parameters.{InRange}
 use Rattle.scheme.specs.Calls.{badParams, AndLoans, andLoans, andRows}
 use Rattle.scheme.specs.Passed.{bound-fits}
-use Rattle.keys.specs.Chain.{params-modulus, answered-range, Gives, given, stops, passes, asks, no-rows, or-same}
+use Rattle.keys.specs.Chain.{params-modulus, answered-range, given, stops, passes, asks, no-rows, or-same}
 use Rattle.gates.proofs.and_number.Statement.{statement}
 use Rattle.gates.proofs.and_number.Tie as tie
 

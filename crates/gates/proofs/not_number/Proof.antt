@@ -1,5 +1,5 @@
 -- `gates::not_number` gives the number of the first row of NOT that applies: each return by what the tests and `row` ensure.
-use mathlib.Core.Path.{_≡_, ap}
+use mathlib.Core.Path.{ap}
 use mathlib.Core.Bool.{not}
 use borrow.Author.Needs.{needs}
 use Rattle.scheme.specs.Calls.{badParams, NotLoans, notLoans, notRows}

@@ -1,5 +1,5 @@
 -- `gates::xor_number` gives the number of the first row of XOR that applies: each return by what the tests and `row` ensure.
-use mathlib.Core.Path.{_≡_, ap}
+use mathlib.Core.Path.{ap}
 use mathlib.Core.Bool.{not}
 use borrow.Author.Needs.{needs}
 use Rattle.refusal.specs.Parameters.{InRange}

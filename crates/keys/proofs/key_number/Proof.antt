@@ -1,5 +1,5 @@
 -- `keys::key_number` gives the number of the first row that applies, by what each test ensures.
-use mathlib.Core.Path.{_≡_, sym, ap, _∙_}
+use mathlib.Core.Path.{sym, ap, _∙_}
 use mathlib.Core.Bool.{not}
 use borrow.Author.Needs.{needs}
 use Rattle.scheme.specs.Calls.{badParams, KeyCheckLoans, keyCheckLoans, keyCheckRows}

@@ -1,5 +1,5 @@
 -- `regev::decrypt_number` gives the number of the first row that applies, by what each test ensures.
-use mathlib.Core.Path.{_≡_, sym, ap, _∙_}
+use mathlib.Core.Path.{sym, ap, _∙_}
 use mathlib.Core.Bool.{not}
 use borrow.Author.Needs.{needs}
 use Rattle.whole.specs.Tests.{or-left}

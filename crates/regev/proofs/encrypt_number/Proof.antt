@@ -1,5 +1,5 @@
 -- `regev::encrypt_number` gives the number of the first row that applies, by what each test ensures.
-use mathlib.Core.Path.{_≡_, sym, ap, _∙_}
+use mathlib.Core.Path.{sym, ap, _∙_}
 use mathlib.Core.Bool.{not}
 use native.Mathlib.Omega.{arith}
 use mir.Facts.{toZ-ofZ}

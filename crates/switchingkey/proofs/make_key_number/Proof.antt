@@ -1,5 +1,5 @@
 -- `switchingkey::make_key_number` gives the number of the first row that applies, by what each test ensures. That no length wraps follows from the parameters' ranges.
-use mathlib.Core.Path.{_≡_, sym, ap, _∙_}
+use mathlib.Core.Path.{sym, ap, _∙_}
 use mathlib.Core.Bool.{not}
 use Prim.Native.Nat.{_*_, _-_, _≤_}
 use native.Mathlib.Nat.{mul-le-mul}
