@@ -1,8 +1,8 @@
 #!/usr/bin/env python3
 """Every name in the backquotes of a comment must exist: exit status 1 and a line for each that does not.
 
-Read are the comments of all `.rt` and `.antt` files of the crates, and the pages of the design and of the decisions, which may name
-what is in any crate and what the scripts of the tests use. What stands in backquotes there is one of these:
+Read are the comments of all `.rt` and `.antt` files of the crates, and the pages of the design, the decisions, the definitions and the
+promises, which may name what is in any crate and what the scripts of the tests use. What stands in backquotes there is one of these:
 
 - a path, `crate::module::function`, or `module::function` or `Type::function` of the same crate or of what its code uses: it is there;
 - a file, `crate/File`, `crate/specs/File.antt`, or a must-fail edit, `crate/edit`: it is there;
@@ -26,7 +26,8 @@ WORD = re.compile(r"[^\W\d_][\w'→-]*[\w']")
 PATH = re.compile(r"\w+(?:::\w+)+")
 FILE = re.compile(r"(?:\w+/)+\w+(?:\.\w+)?|\w+\.(?:antt|rt|py|md|txt)")
 LANGUAGE = {"requires", "ensures", "unfolding", "omega"}
-PAGES = ("docs/DESIGN.md", "docs/DECISIONS.md")
+PAGES = ("docs/DESIGN.md", "docs/DECISIONS.md", "docs/DEFINITIONS.md", "docs/PROMISES.md")
+FORM = re.compile(r"crate(::|/).*|crates/(crate|NAME)/.*")  # how such a name is written, and none itself
 MODULE = re.compile(r"[\w·]+(?:\.\w+)+")
 IMPORT = re.compile(r"^(?:ghost )?use [^;{]*\.\{([^}]*)\}", re.M)
 LOGIC = (  # declarations, fields and locals; parameters; bound names
@@ -175,7 +176,8 @@ def of_pages():
     for page in PAGES:
         text = (ROOT / page).read_text(encoding="utf-8")
         for found in re.finditer(r"`([^`]+)`", text):
-            yield ROOT / page, text.count("\n", 0, found.start()) + 1, " ".join(found[1].split())
+            if not FORM.fullmatch(found[1]):
+                yield ROOT / page, text.count("\n", 0, found.start()) + 1, " ".join(found[1].split())
 
 
 def quoted():
