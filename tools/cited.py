@@ -16,6 +16,7 @@ import sys
 ROOT = pathlib.Path(__file__).resolve().parent.parent
 LAYER = ("circuit", "checks", "planning", "working", "evaluation")
 COMPUTED = ("Example.antt", "Refusals.antt")  # tables of worked figures, by computation alone
+NUMBERED = ("inOrder", "order", "position", "positionIn", "areSingle", "before", "isOther")  # one computed test each, of the numbers of rows
 ALLOWED = ROOT / "tools" / "cited.txt"
 
 USE = re.compile(r"^(?:ghost )?use Rattle·([a-z]+)\.([A-Za-z0-9_.]+?)\.\{([^}]*)\}", re.M)
@@ -45,7 +46,7 @@ def below():
 
 
 def scan():
-    """All (what, crate, module, name) of the layer's files: what is calls, cites, unfolds or computes."""
+    """All (what, crate, module, name) of the layer's files: what is calls, cites, unfolds, numbers or computes."""
     rows = set()
     lower = below()
     for path in sorted(path for crate in LAYER for path in (ROOT / "crates" / crate).rglob("*")):
@@ -61,7 +62,8 @@ def scan():
             for name in line.split():
                 if name in names and names[name][0] in lower:
                     crate, module, real = names[name]
-                    rows.add(("computes" if computed else "unfolds", crate, module, real))
+                    what = "computes" if computed else "numbers" if crate == "refusal" and real in NUMBERED else "unfolds"
+                    rows.add((what, crate, module, real))
         for crate, item in CALL.findall(text):
             if crate in lower:
                 rows.add(("calls", crate, *item.rpartition("::")[::2]))

@@ -11,7 +11,7 @@ use lib.ListN.{length}
 use borrow.Author.Tests.{leb-true, not-false}
 use Rattle.whole.specs.Tests.{and-right, or-left, or-right}
 use Rattle.refusal.specs.declared.Params.{Params}
-use Rattle.refusal.specs.First.{Row, rowOf, refused, firstOf, placeOf, answerOf, firstTrue, someTrue, Clear, areSingle, place-single, answer-front, answer-rest, answer-row, answer-past, some-first, none-first}
+use Rattle.refusal.specs.First.{Row, rowOf, refused, firstOf, answerOf, firstTrue, someTrue, Clear, areSingle, place-single, answer-front, answer-rest, answer-row, answer-past, answer-none, some-first, none-first}
 use Rattle.refusal.specs.Parameters.{within}
 use Rattle.circuit.specs.declared.Gate.{Gate}
 use Rattle.circuit.specs.Circuits.{wrongGates, overGates, badCounts, gateRows}
@@ -52,9 +52,9 @@ module _ (p : Params) (inputs : ℕ) (gates : List Gate) (Bs : List ℕ) (front 
 
       -- neither
       pub answered-done : length gates ≤ firstTrue over → refused 0 0 ≡ answerOf rows
-      unfolding gateRows firstOf placeOf
+      unfolding gateRows
       answered-done h =
-          sym (behind ∙ answer-past 9 wrong (rowOf 10 over ∷ []) none-wrong ∙ answer-past 10 over [] (none-first over (omega (arith, length-overGates p gates Bs))))
+          sym (behind ∙ answer-past 9 wrong (rowOf 10 over ∷ []) none-wrong ∙ answer-past 10 over [] (none-first over (omega (arith, length-overGates p gates Bs))) ∙ answer-none)
 
 -- ---- 2
 

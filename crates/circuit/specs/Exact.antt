@@ -11,7 +11,7 @@ use lib.Seq.{length-take-le}
 use Rattle.whole.specs.Tests.{clash, or-neither}
 use Rattle.refusal.specs.declared.Refusal.{Refusal}
 use Rattle.refusal.specs.declared.Params.{Params}
-use Rattle.refusal.specs.First.{Row, rowOf, refused, firstOf, placeOf, answerOf, Clear, clear-append, answer-rest}
+use Rattle.refusal.specs.First.{Row, rowOf, refused, firstOf, answerOf, Clear, clear-append, answer-rest, answer-none}
 use Rattle.refusal.specs.Exact.{before, IsFirst, Exact, isOther, exact, true-inside}
 use Rattle.scheme.specs.Calls.{overBudget}
 use Rattle.scheme.specs.Passed.{bound-fits, bound-over, above-over, below-over, lengths-same}
@@ -108,7 +108,7 @@ module _ (p : Params) (inputs : ℕ) (gates : List Gate) (Bs : List ℕ) (front 
         }
 
     pub gates-budget-exact : Clear (front ++ (rowOf 9 wrong ∷ [])) → BudgetExact p inputs gates Bs (answerOf (front ++ gateRows p inputs gates Bs))
-    unfolding gateRows isOther firstOf placeOf
+    unfolding gateRows isOther
     gates-budget-exact clear =
         let (before-nine, nine) = clear-append front (rowOf 9 wrong ∷ []) clear in
         let x : Exact (rowOf 10 over) [] (answerOf ((rowOf 9 wrong ∷ []) ++ (rowOf 10 over ∷ []))) = exact (rowOf 9 wrong ∷ []) (rowOf 10 over) [] nine refl in
@@ -116,7 +116,7 @@ module _ (p : Params) (inputs : ℕ) (gates : List Gate) (Bs : List ℕ) (front 
         (record {
           refuses = λ g inside e. x .refuses g (over-test g inside ∙ above-over (p .q) _ e);
           first = λ ten. first-over (x .first ten);
-          accepts = λ fit. x .passes (none-over fit);
+          accepts = λ fit. x .passes (none-over fit) ∙ answer-none;
         })
 
 -- ---- planning and evaluation

@@ -160,6 +160,10 @@ pub answer-past : (k : ℕ) (ts : List Bool) (rows : List Row) → someTrue ts �
 unfolding firstOf placeOf
 answer-past k ts rows e = rw e
 
+pub answer-none : answerOf [] ≡ refused 0 0
+unfolding firstOf placeOf
+answer-none = refl
+
 -- ---- rows tested in two stages: where one of the front rows applies the answer is theirs, and where none does it is that of the rest
 
 module _ (r : Row) (front rest : List Row) where

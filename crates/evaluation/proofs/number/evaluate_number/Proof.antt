@@ -1,7 +1,7 @@
 -- `number::evaluate_number` gives the number of the first row of evaluation that applies of those before planning's, each return by what the tests and `row`
 -- ensure. Past 2 the counts are small, so that no product wraps, and past 3 the inputs' wires lie within the buffer.
-use mathlib.Core.Path.{_≡_, sym, ap, _∙_}
-use mathlib.Core.Bool.{false, not, _||_}
+use mathlib.Core.Path.{_≡_, refl, sym, _∙_}
+use mathlib.Core.Bool.{false, _||_}
 use Prim.Native.Nat.{_*_, _≤_}
 use native.Mathlib.Nat.{mul-le-mul, mul-le-mul-right, sub-zero}
 use native.Mathlib.Omega.{arith}
@@ -9,9 +9,9 @@ use lib.ListN.{length}
 use borrow.Author.Needs.{needs}
 use Rattle.whole.specs.Tests.{or-left, or-right}
 use Rattle.refusal.specs.Parameters.{InRange}
-use Rattle.scheme.specs.Calls.{badParams, differs}
+use Rattle.scheme.specs.Calls.{differs}
 use Rattle.scheme.specs.Passed.{length-is}
-use Rattle.keys.specs.Chain.{params-modulus, answered-range, given, stops, passes, asks, no-rows, or-same}
+use Rattle.keys.specs.Chain.{params-modulus, params-tested, answered-range, given, stops, passes, asks, no-rows, or-same}
 use Rattle.circuit.specs.Circuits.{badCounts, asLists, unevenLists}
 use Rattle.circuit.specs.Plan.{planLoans, wireCount}
 use Rattle.circuit.specs.Evaluate.{EvaluateLoans, evaluateLoans, evaluateFront}
@@ -30,17 +30,17 @@ abbrev start : tie.After-in-range → tie.Start
 start c = c .before .before .before .before .before
 
 returns : tie.Need-returns
-unfolding evaluateFront badParams
-returns c = given (evaluateFront (loans (start (c .before)))) (stops (ap not (c .before .in-range .ensures)) (c .if1 .taken))
+unfolding evaluateFront
+returns c = given (evaluateFront (loans (start (c .before)))) (stops (sym (params-tested _ (c .before .in-range .ensures) refl)) (c .if1 .taken))
 
 range : (c : tie.Else1) → InRange (start (c .before) .args .p)
 range c = answered-range _ (c .before .in-range .ensures) (c .if1 .left)
 
 returns-2 : tie.Need-returns-2
-unfolding evaluateFront badParams
+unfolding evaluateFront
 returns-2 c =
     let a = c .before .before in
-    given (evaluateFront (loans (start (a .before)))) (passes (ap not (a .before .in-range .ensures)) (a .if1 .left) (stops (c .before .are-bad-counts .ensures) (c .if2 .taken)))
+    given (evaluateFront (loans (start (a .before)))) (passes (sym (params-tested _ (a .before .in-range .ensures) refl)) (a .if1 .left) (stops (c .before .are-bad-counts .ensures) (c .if2 .taken)))
 
 -- ---- past 2
 
@@ -102,12 +102,12 @@ lengths d =
     or-same (or-same (or-same (or-same (or-same (w .before .length-differs .ensures) (w .length-differs2 .ensures)) (b .length-differs3 .ensures)) (k .length-differs4 .ensures)) (e .length-differs5 .ensures)) (d .length-differs6 .ensures)
 
 returns-3 : tie.Need-returns-3
-unfolding evaluateFront badParams
+unfolding evaluateFront
 returns-3 c =
     let e = counted (c .before) in
     let a = ranged e in
     given (evaluateFront (lent e))
-    (passes (ap not (a .before .in-range .ensures)) (a .if1 .left)
+    (passes (sym (params-tested _ (a .before .in-range .ensures) refl)) (a .if1 .left)
     (passes (e .before .are-bad-counts .ensures) (e .if2 .left)
     (stops (lengths (c .before)) (c .if3 .taken))))
 
@@ -133,14 +133,14 @@ is-outside-big-requires : tie.Need-is-outside-big-requires
 is-outside-big-requires c κs = params-modulus (range (ranged (counted (c .before .before .before))))
 
 returns-4 : tie.Need-returns-4
-unfolding evaluateFront badParams
+unfolding evaluateFront
 returns-4 c =
     let o = c .before in
     let t = o .before .before .before in
     let e = counted (t .before) in
     let a = ranged e in
     given (evaluateFront (lent e))
-    (passes (ap not (a .before .in-range .ensures)) (a .if1 .left)
+    (passes (sym (params-tested _ (a .before .in-range .ensures) refl)) (a .if1 .left)
     (passes (e .before .are-bad-counts .ensures) (e .if2 .left)
     (passes (lengths (t .before)) (t .if3 .left)
     (asks (c .row .ensures) (or-same (rw sub-zero at (o .before .is-outside .ensures)) (o .is-outside-big .ensures)) no-rows))))
