@@ -10,7 +10,7 @@ use lib.IntN.{ℤ, pos}
 use lib.ListN.{length, getD, set, replicate, length-map, length-replicate}
 use borrow.Author.Tests.{leb-true, leb-false}
 use Rattle.circuit.specs.declared.Gate.{Gate}
-use Rattle.circuit.specs.Core.{gate}
+use Rattle.circuit.specs.Circuits.{gate}
 use Rattle.stream.specs.Front.{Put, put-more}
 use Rattle.whole.specs.Lists.{cut, length-cut, getD-cut-entry, getD-map}
 use Rattle.calls.specs.Lent.{wordAt, listAt, fitting, fitting-within, fitting-over}
