@@ -11,7 +11,7 @@ use Rattle.refusal.specs.declared.Refusal.{Refusal}
 use Rattle.refusal.specs.First.{Row, row, firstOf, answerOf, doneOr}
 use Rattle.scheme.specs.Calls.{badParams, differs, outside}
 use Rattle.circuit.specs.Circuits.{badCounts, boundsOf, wiresOf}
-use Rattle.circuit.specs.Plan.{PlanLoans, wireCount, stated, statedRow, circuitRows}
+use Rattle.circuit.specs.Plan.{PlanLoans, wireCount, stated, sharedRows, circuitRows}
 
 pub record EvaluateLoans : Type 0 where
   pub plan : PlanLoans
@@ -38,7 +38,7 @@ evaluateFront a =
     ∷ []
 
 unfoldable pub evaluateRows : EvaluateLoans → List Row
-evaluateRows a = evaluateFront a ++ (statedRow (a .plan) ∷ circuitRows (a .plan))
+evaluateRows a = evaluateFront a ++ (sharedRows (a .plan) ++ circuitRows (a .plan))
 
 unfoldable pub evaluateAnswer : EvaluateLoans → Refusal
 evaluateAnswer a = answerOf (evaluateRows a)

@@ -17,7 +17,7 @@ use Rattle.scheme.specs.Calls.{overBudget}
 use Rattle.scheme.specs.Passed.{bound-fits, bound-over, above-over, below-over, lengths-same}
 use Rattle.circuit.specs.declared.Gate.{Gate}
 use Rattle.circuit.specs.Circuits.{gate, wrongGate, wrongGates, boundsOf, overGates, gateRows}
-use Rattle.circuit.specs.Plan.{PlanLoans, wireCount, stated, statedRow, circuitRows, planFront, planRows, planAnswer, planBounds}
+use Rattle.circuit.specs.Plan.{PlanLoans, wireCount, stated, sharedRows, circuitRows, planFront, planRows, planAnswer, planBounds}
 use Rattle.circuit.specs.Evaluate.{EvaluateLoans, evaluateFront, evaluateRows, evaluateAnswer, evaluateBounds}
 use Rattle.circuit.specs.Records.{length-wrongGates, getD-wrongGates, length-overGates, getD-overGates}
 use Rattle.circuit.specs.Passed.{plan-passed, evaluate-passed}
@@ -147,7 +147,7 @@ module _ (a : EvaluateLoans) where
 
   -- the rows in front of those of the gates
   abbrev front : List Row
-  front = evaluateFront a ++ (statedRow l ∷ [])
+  front = evaluateFront a ++ sharedRows l
 
   pub evaluate-wrong-exact : Clear (before 9 (evaluateRows a)) → WrongExactFor l (evaluateAnswer a)
   unfolding before evaluateFront evaluateRows evaluateAnswer gateRows
@@ -156,7 +156,7 @@ module _ (a : EvaluateLoans) where
   pub evaluate-exact : Clear (before 10 (evaluateRows a)) → BudgetExactFor l (evaluateAnswer a)
   unfolding before evaluateFront evaluateRows evaluateAnswer gateRows
   evaluate-exact clear =
-      let (early, late) = clear-append (evaluateFront a) (statedRow l ∷ rowOf 9 (wrongGates (l .inputs) (l .circuit .gates)) ∷ []) clear in
+      let (early, late) = clear-append (evaluateFront a) (sharedRows l ++ (rowOf 9 (wrongGates (l .inputs) (l .circuit .gates)) ∷ [])) clear in
       gates-budget-exact (l .p) (l .inputs) (l .circuit .gates) (stated l) front
       (length-take-le (l .inputs) (l .bounds) (omega (arith, evaluate-passed a early .bounds-long)))
       clear
@@ -166,7 +166,7 @@ module _ (a : EvaluateLoans) where
   unfolding before planFront planRows evaluateRows
   agreed own =
       let passed = evaluate-passed a own in
-      let late : List Row = statedRow l ∷ circuitRows l in
+      let late : List Row = sharedRows l ++ circuitRows l in
       let three = or-neither (passed .even) (lengths-same (length (l .bounds)) (wireCount l) (passed .bounds-long)) in
       answer-rest (before 8 (planFront l)) late ((passed .params, tt), ((passed .counts, tt), ((three, tt), tt))) ∙ sym (answer-rest (evaluateFront a) late own)
 

@@ -1,7 +1,7 @@
 -- What follows, fact by fact, where the rows in front do not apply, of planning and of evaluation. No other file counts rows.
 use mathlib.Core.Path.{_≡_, refl}
 use mathlib.Core.Bool.{true, false}
-use mathlib.Core.List.{List, _∷_}
+use mathlib.Core.List.{List, _++_}
 use Prim.Native.Nat.{_*_}
 use lib.ListN.{length, take}
 use borrow.Author.Tests.{not-false}
@@ -14,7 +14,7 @@ use Rattle.scheme.specs.Arithmetic.{fits, isResidue}
 use Rattle.scheme.specs.Calls.{badParams, outside}
 use Rattle.scheme.specs.Passed.{params-in-range, length-is, entries-inside}
 use Rattle.circuit.specs.Circuits.{badCounts, gateRows}
-use Rattle.circuit.specs.Plan.{PlanLoans, wireCount, stated, statedRow, circuitRows, planFront}
+use Rattle.circuit.specs.Plan.{PlanLoans, wireCount, stated, sharedRows, circuitRows, planFront}
 use Rattle.circuit.specs.Evaluate.{EvaluateLoans, evaluateFront, evaluateRows}
 
 -- ---- planning
@@ -89,6 +89,6 @@ pub evaluate-done : (a : EvaluateLoans) → firstOf (evaluateRows a) ≡ 0 → E
 unfolding evaluateRows evaluateFront gateRows positionIn order position inOrder
 evaluate-done a e =
     let l = a .plan in
-    let late : List Row = statedRow l ∷ circuitRows l in
+    let late : List Row = sharedRows l ++ circuitRows l in
     let (front, rest) = clear-append (evaluateFront a) late (first-clear (evaluateRows a) refl e) in
-    record { passed = evaluate-passed a front; fit = not-false _ (rest .0 .0); gates-clear = rest .1 }
+    record { passed = evaluate-passed a front; fit = not-false _ (rest .0 .0); gates-clear = clear-append (sharedRows l) (circuitRows l) rest .1 }

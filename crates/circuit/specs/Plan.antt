@@ -31,9 +31,9 @@ wireCount a = a .inputs + a .circuit .count
 abbrev pub stated : PlanLoans → List ℕ
 stated a = take (a .inputs) (a .bounds)
 
--- 8: the stated bound of an input does not fit
-abbrev pub statedRow : PlanLoans → Row
-statedRow a = row 8 (not (every (fits (a .p .q)) (stated a)))
+-- what planning and evaluation test alike before the gates. 8: the stated bound of an input does not fit
+abbrev pub sharedRows : PlanLoans → List Row
+sharedRows a = row 8 (not (every (fits (a .p .q)) (stated a))) ∷ []
 
 -- 9 and 10
 abbrev pub circuitRows : PlanLoans → List Row
@@ -45,8 +45,7 @@ planFront a =
     row 1 (badParams (a .p))
     ∷ row 2 (badCounts (a .inputs) (a .circuit .count))
     ∷ row 3 (a .circuit .uneven || differs (length (a .bounds)) (wireCount a))
-    ∷ statedRow a
-    ∷ []
+    ∷ sharedRows a
 
 unfoldable pub planRows : PlanLoans → List Row
 planRows a = planFront a ++ circuitRows a

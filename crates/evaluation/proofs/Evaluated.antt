@@ -2,7 +2,7 @@
 -- answers and leaves, where the first stage refuses, where planning does, and where neither does.
 use mathlib.Core.Path.{_≡_, refl, sym, ap, _∙_}
 use mathlib.Core.Logic.{_≢_}
-use mathlib.Core.List.{List, [], _∷_, _++_, flatten}
+use mathlib.Core.List.{List, _++_, flatten}
 use Prim.Native.Nat.{ℕ, _*_}
 use lib.IntN.{ℤ, pos}
 use lib.ListN.{replicate}
@@ -10,7 +10,7 @@ use Rattle.whole.specs.Lists.{cut}
 use Rattle.refusal.specs.declared.Refusal.{Refusal}
 use Rattle.refusal.specs.First.{Row, refused, firstOf, areSingle, first-front, doneOr-done, doneOr-refused}
 use Rattle.circuit.specs.Circuits.{wiresOf}
-use Rattle.circuit.specs.Plan.{stated, statedRow, planAnswer, planBounds, PlanPromise}
+use Rattle.circuit.specs.Plan.{stated, sharedRows, planAnswer, planBounds, PlanPromise}
 use Rattle.circuit.specs.Evaluate.{EvaluateLoans, evaluateFront, evaluateRows, evaluateAnswer, evaluateWires, evaluateBounds, evaluateScratch, EvaluatePromise}
 use Rattle.circuit.specs.Answers.{answered-early}
 use Rattle.circuit.specs.Passed.{evaluate-clear}
@@ -34,8 +34,8 @@ module _ (a : EvaluateLoans) where
   unfolding evaluateAnswer evaluateRows evaluateFront areSingle
   early-answer e h =
       let l = a .plan in
-      let front : List Row = evaluateFront a ++ (statedRow l ∷ []) in
-      answered-early (l .p) (l .inputs) (l .circuit .gates) (stated l) front (e ∙ sym (first-front (evaluateFront a) (statedRow l ∷ []) (λ z. h (e ∙ z)))) h refl
+      let front : List Row = evaluateFront a ++ sharedRows l in
+      answered-early (l .p) (l .inputs) (l .circuit .gates) (stated l) front (e ∙ sym (first-front (evaluateFront a) (sharedRows l) (λ z. h (e ∙ z)))) h refl
 
   pub evaluated-early : {n : ℕ} → n ≡ firstOf (evaluateFront a) → n ≢ 0 → EvaluatePromise a (refused n 0) (a .wires) (a .plan .bounds) (a .scratch)
   unfolding evaluateBounds
