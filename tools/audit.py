@@ -29,7 +29,7 @@ import sys
 import audit_edits
 
 ROOT = pathlib.Path(__file__).resolve().parent.parent
-ENGINE = ("refusal", "modular", "keys", "tensor", "switch", "checks", "switchingkey", "regev", "gates", "filehead", "planning", "working", "evaluation", "records", "gatfile", "text")
+ENGINE = ("refusal", "modular", "passes", "bound", "keys", "tensor", "switch", "checks", "switchingkey", "benchkey", "regev", "gates", "filehead", "planning", "working", "evaluation", "records", "gatfile", "text")
 THEOREMS = ("whole", "refusal", "scheme", "noise", "circuit", "vouched", "circuitfile")
 RESULTS = "audit.tsv"
 REFUSED, ACCEPTED, BAD = "refused", "accepted", "does not compile"

@@ -1,7 +1,9 @@
 #!/usr/bin/env python3
 """The first error of each must-fail edit that was tried, from the logs under target/must-fail/: what refused it.
 
-    python3 tools/first_errors.py [CRATE...]
+    python3 tools/first_errors.py [--tried FOLDER] [CRATE...]
+
+The edits were tried in this repository, or in the one in FOLDER that has copies of the crates.
 
 An edit is to be refused for a fact: what a function answers, a loop's invariant, a figure, a law. One that names something that is not in scope, or after
 which a definition has no type, is refused too, and shows nothing. Exit status 1 where the first error of an edit is of that kind: in its own line, or of a
@@ -18,9 +20,9 @@ NO_NAME = re.compile(r"not in scope|no module")
 WIDTH = 150
 
 
-def first_error(edit):
+def first_error(edit, tried):
     """Where the first error stands and what it says, or None where the edit was not tried."""
-    log = ROOT / "target" / "must-fail" / edit.parent.parent.name / edit.stem / ".log"
+    log = tried / "target" / "must-fail" / edit.parent.parent.name / edit.stem / ".log"
     found = log.exists() and ERROR.search(log.read_text(encoding="utf-8", errors="replace"))
     return found and (found[1], found[2])
 
@@ -39,12 +41,16 @@ def edited_lines(edit):
 
 def main():
     wanted = sys.argv[1:]
+    tried = ROOT
+    if wanted[:1] == ["--tried"]:
+        tried = pathlib.Path(wanted[1])
+        wanted = wanted[2:]
     faults = 0
     for edit in sorted((ROOT / "crates").glob("*/must-fail/*.edit")):
         crate = edit.parent.parent.name
         if wanted and crate not in wanted:
             continue
-        error = first_error(edit)
+        error = first_error(edit, tried)
         bad = not error or NO_NAME.search(error[1]) or error[0] in edited_lines(edit)
         faults += bool(bad)
         told = f"{error[0]}  {error[1][:WIDTH]}" if error else "was not tried"

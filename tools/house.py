@@ -14,7 +14,7 @@ ROOT = pathlib.Path(__file__).resolve().parent.parent
 PAGE = ROOT / "docs" / "house.svg"
 WIDTH, HEIGHT, GAP, RISE, MARGIN = 104, 30, 18, 74, 16
 KINDS = {"program": ("#fdf0d5", "what C links, and the printer"), "code": ("#dbe9f6", "code and its proofs"), "laws": ("#e3f1df", "definitions, laws and theorems alone")}
-APART = ("stream", "calls", "edges", "replay", "bench")
+APART = ("stream", "calls", "answers", "edges", "replay", "loops", "bench")
 
 
 def crates():

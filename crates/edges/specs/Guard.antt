@@ -13,7 +13,7 @@ use lib.Seq.{take-all}
 use borrow.Author.Tests.{leb-true, eqb-true}
 use Rattle.whole.specs.Tests.{clash, and-left, and-right, and-both}
 use Rattle.whole.specs.Lists.{every, every-suc, every-getD, every-each}
-use Rattle.modular.specs.Loans.{Modulus, UpTo}
+use Rattle.scheme.specs.Loans.{Modulus, UpTo}
 use Rattle.stream.specs.Ranges.{inside, up-from}
 
 -- x is at most `most` in size

@@ -1,5 +1,5 @@
 // Answers a case by its number.
-ghost use Rattle.modular.specs.Loans.{Modulus};
+ghost use Rattle.scheme.specs.Loans.{Modulus};
 ghost use Rattle.stream.specs.Bounds.{CountIn, Placed};
 use crate::case::Case;
 use crate::case::Head;

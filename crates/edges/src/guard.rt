@@ -5,7 +5,7 @@ ghost use lib.Dec.{leb};
 ghost use lib.ListN.{length};
 ghost use Rattle.whole.specs.Inner.{sizes};
 ghost use Rattle.whole.specs.Lists.{every};
-ghost use Rattle.modular.specs.Loans.{Modulus};
+ghost use Rattle.scheme.specs.Loans.{Modulus};
 ghost use Rattle.stream.specs.Bounds.{CountIn};
 ghost use Rattle.stream.specs.Front.{front};
 ghost use Rattle.stream.specs.Ranges.{isNarrow};
@@ -63,7 +63,7 @@ pub fn is_small(s: &[i32]) -> bool
     requires { ⌜ length (now s) ≤ 1024 ⌝ }
     ensures { λ r. ⌜ r ≡ leb (sizes (now (s .entry))) 4096 ⌝ }
 {
-    modular::key::sum_of_sizes(s) <= 4096
+    passes::key::sum_of_sizes(s) <= 4096
 }
 
 // Copies numbers of 32 bits to the front of `to`, up to the first that is none, and tells whether all of them are.

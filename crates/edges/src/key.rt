@@ -5,9 +5,9 @@ ghost use lib.ListN.{length};
 ghost use Rattle.stream.specs.Bounds.{Placed};
 use crate::guard;
 use crate::print;
-use modular::key::inner_column;
-use modular::key::inner_product;
-use modular::key::sum_of_sizes;
+use passes::key::inner_column;
+use passes::key::inner_product;
+use passes::key::sum_of_sizes;
 
 // The largest size of an entry that a key is multiplied by: 2^39.
 const ENTRY: u64 = 549755813888;

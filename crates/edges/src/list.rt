@@ -1,11 +1,11 @@
 // The cases on lists of entries.
-ghost use Rattle.modular.specs.Loans.{Modulus};
+ghost use Rattle.scheme.specs.Loans.{Modulus};
 ghost use Rattle.stream.specs.Bounds.{Placed};
 use crate::guard;
 use crate::print;
-use modular::range::all_big_residues;
-use modular::range::all_residues;
-use modular::range::all_within;
+use passes::range::all_big_residues;
+use passes::range::all_residues;
+use passes::range::all_within;
 use switch::fill_switch;
 use switch::switch_entry;
 use tensor::fill_tensor;

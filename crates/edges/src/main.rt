@@ -10,12 +10,12 @@
 //      5  q c d            the tensor                tensor::fill_tensor
 //      6  q t row          a switched entry          switch::switch_entry
 //      7  q n t key        the n switched entries    switch::fill_switch
-//      8  q xs             1 or 0                    modular::range::all_residues
-//      9  q xs             1 or 0                    modular::range::all_big_residues
-//     10  limit xs         1 or 0                    modular::range::all_within
-//     11  s                the sum of sizes          modular::key::sum_of_sizes
-//     12  s c              <s,c>                     modular::key::inner_product
-//     13  width j s table  <s,column j>              modular::key::inner_column
+//      8  q xs             1 or 0                    passes::range::all_residues
+//      9  q xs             1 or 0                    passes::range::all_big_residues
+//     10  limit xs         1 or 0                    passes::range::all_within
+//     11  s                the sum of sizes          passes::key::sum_of_sizes
+//     12  s c              <s,c>                     passes::key::inner_product
+//     13  width j s table  <s,column j>              passes::key::inner_column
 //
 // The first list of a case holds up to 4,096 entries and its second up to 40,960, and a list that is made up to 4,096. Each case has one line: its results, with a
 // space after each, or `refused`, where the function does not take the operands: each requirement is tested at run time before the call. A case number

@@ -1,12 +1,12 @@
 // The cases on single numbers.
-ghost use Rattle.modular.specs.Loans.{Modulus};
+ghost use Rattle.scheme.specs.Loans.{Modulus};
 ghost use Rattle.stream.specs.Bounds.{Placed};
 use crate::guard;
 use crate::print;
 use modular::big_residue::BigResidue;
-use modular::range::all_residues;
 use modular::residue::Residue;
 use modular::round::round_quotient;
+use passes::range::all_residues;
 use tensor::fill_tensor;
 
 // 1: [x]q

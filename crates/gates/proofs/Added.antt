@@ -9,7 +9,7 @@ use mir.Val.{SFits, toZ, ofZ}
 use mir.Facts.{toZ-ofZ}
 use Rattle.whole.specs.Size.{size-add}
 use Rattle.whole.specs.Machine.{fits64}
-use Rattle.modular.specs.Loans.{Modulus, Near, size-near}
+use Rattle.scheme.specs.Loans.{Modulus, Near, size-near}
 
 -- x, written to a word and read again
 abbrev word : ℤ → ℤ

@@ -11,7 +11,8 @@ use Rattle.scheme.specs.Arithmetic.{XOR-bound}
 use Rattle.scheme.specs.Calls.{XorLoans, xorRows, NotLoans, notRows, AndLoans, andBound, andRows}
 use Rattle.scheme.specs.Passed.{params-in-range, length-is, entries-inside, bound-fits}
 use Rattle.keys.specs.Chain.{params-modulus}
-use Rattle.gates.specs.Ready.{XorIntoReady, NotIntoReady, AndIntoReady, AndBoundReady}
+use Rattle.bound.specs.Ready.{AndBoundReady}
+use Rattle.gates.specs.Ready.{XorIntoReady, NotIntoReady, AndIntoReady}
 
 pub record XorReady (a : XorLoans) : Type 0 where
   pub range : InRange (a .p)

@@ -1,4 +1,4 @@
--- What `xor_into`, `not_into`, `and_into` and `and_bound` ask. A call knows it once no refusal applies, and a circuit once its loans are tested.
+-- What `xor_into`, `not_into` and `and_into` ask. A call knows it once no refusal applies, and a circuit once its loans are tested.
 use mathlib.Core.Path.{_≡_}
 use mathlib.Core.Bool.{true}
 use mathlib.Core.List.{List}
@@ -6,10 +6,8 @@ use Prim.Native.Nat.{ℕ, _*_, _≤_, _<_}
 use lib.IntN.{ℤ}
 use lib.ListN.{length}
 use Rattle.whole.specs.Lists.{every}
-use Rattle.refusal.specs.declared.Params.{Params}
-use Rattle.refusal.specs.Parameters.{InRange}
 use Rattle.scheme.specs.Arithmetic.{isResidue}
-use Rattle.modular.specs.Loans.{Modulus}
+use Rattle.scheme.specs.Loans.{Modulus}
 
 pub record XorIntoReady (q : ℕ) (c d out : List ℤ) : Type 0 where
   pub modulus : Modulus q
@@ -35,8 +33,3 @@ pub record AndIntoReady (q : ℕ) (c d W scratch out : List ℤ) : Type 0 where
   pub left-inside : every (isResidue q) c ≡ true
   pub right-inside : every (isResidue q) d ≡ true
   pub key-inside : every (isResidue (q * q)) W ≡ true
-
-pub record AndBoundReady (p : Params) (B1 B2 : ℕ) : Type 0 where
-  pub range : InRange p
-  pub left-fits : 4 * B1 < p .q
-  pub right-fits : 4 * B2 < p .q

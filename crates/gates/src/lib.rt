@@ -1,19 +1,19 @@
 // XOR, NOT and AND: document 01's *XOR*, *NOT* and *AND*. What each call answers and writes is defined in the crate scheme, and what the functions that it works
 // by ask here. Every call takes arbitrary numbers and buffers and refuses bad ones by number; those functions, which a circuit calls too, stand beside it.
 ghost use mathlib.Core.Path.{_≡_};
-ghost use Prim.Native.Nat.{_≤_};
 ghost use lib.ListN.{length};
 ghost use Rattle.refusal.specs.First.{firstOf};
-ghost use Rattle.scheme.specs.Arithmetic.{XOR, NOT, tensor, AND, AND-bound};
+ghost use Rattle.scheme.specs.Arithmetic.{XOR, NOT, tensor, AND};
 ghost use Rattle.scheme.specs.Calls.{xorLoans, xorRows, XorPromise, notLoans, notRows, NotPromise, andLoans, andRows, AndPromise};
-ghost use Rattle.gates.specs.Ready.{XorIntoReady, NotIntoReady, AndIntoReady, AndBoundReady};
+ghost use Rattle.gates.specs.Ready.{XorIntoReady, NotIntoReady, AndIntoReady};
+use bound::and_bound;
 use keys::tests::is_outside;
 use keys::tests::is_outside_big;
 use keys::tests::is_over;
 use keys::tests::length_differs;
-use modular::buffer::copy;
-use modular::buffer::zero;
 use modular::residue::Residue;
+use passes::buffer::copy;
+use passes::buffer::zero;
 use refusal::Params;
 use scheme::Bounded;
 use switch::fill_switch;
@@ -49,21 +49,6 @@ pub fn and_into(q: u32, c: &[i64], d: &[i64], key: &[i64], scratch: &mut [i64], 
 {
     fill_tensor(q, c, d, scratch);
     fill_switch(q, scratch, key, out);
-}
-
-// The bound of AND, with its two divisions rounded down by themselves. It can pass 32 bits before it is refused.
-pub fn and_bound(p: Params, b1: u32, b2: u32) -> u64
-    requires { ⌜ AndBoundReady p b1 b2 ⌝ }
-    ensures { λ r. ⌜ (r ≡ AND-bound (p .n) (p .q) (p .l) (p .f) b1 b2) × (r ≤ 1099511627776) ⌝ }
-{
-    let n = p.n as u64;
-    let q = p.q as u64;
-    let l = p.l as u64;
-    let f = p.f as u64;
-    let x = b1 as u64;
-    let y = b2 as u64;
-    let product = (2 * q * l * (x + y) + 4 * x * y + q * (l * l)) / (2 * q);
-    product + (n * n * f + l) / 2
 }
 
 // The number for an XOR into `out`: 1, 3, 6, 8, 10 or 0.

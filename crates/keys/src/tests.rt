@@ -3,11 +3,11 @@ ghost use mathlib.Core.Path.{_≡_};
 ghost use Prim.Native.Nat.{_*_, _≤_};
 ghost use lib.ListN.{length};
 ghost use Rattle.scheme.specs.Calls.{differs, badKey, badBit, outside, exceeds, overBudget};
-ghost use Rattle.modular.specs.Loans.{Modulus};
-use modular::key::sum_of_sizes;
-use modular::range::all_big_residues;
-use modular::range::all_residues;
-use modular::range::all_within;
+ghost use Rattle.scheme.specs.Loans.{Modulus};
+use passes::key::sum_of_sizes;
+use passes::range::all_big_residues;
+use passes::range::all_residues;
+use passes::range::all_within;
 
 // 3: a length differs from the one required.
 pub fn length_differs(had: usize, required: usize) -> bool

@@ -3,7 +3,7 @@ ghost use Prim.Native.Nat.{_*_, _≤_};
 ghost use lib.IntN.{pos, _+ℤ_, _*ℤ_, natAbs};
 ghost use Rattle.whole.specs.Centred.{centred};
 ghost use Rattle.whole.specs.Round.{round};
-ghost use Rattle.modular.specs.Loans.{Modulus};
+ghost use Rattle.scheme.specs.Loans.{Modulus};
 use crate::centre::centre;
 use crate::residue::Residue;
 use crate::round::round_quotient;

@@ -1,7 +1,7 @@
 ghost use mathlib.Core.Path.{_≡_};
 ghost use Prim.Native.Nat.{_<_, _≤_};
 ghost use Rattle.whole.specs.Centred.{centred};
-ghost use Rattle.modular.specs.Loans.{Near};
+ghost use Rattle.scheme.specs.Loans.{Near};
 
 // [x]m for an x that is at most one modulus outside the range, which takes no division.
 pub fn one_turn(x: i64, m: u64) -> i64

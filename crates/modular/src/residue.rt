@@ -2,7 +2,7 @@ ghost use mathlib.Core.Path.{_≡_};
 ghost use Prim.Native.Nat.{_/_, _≤_};
 ghost use lib.IntN.{natAbs};
 ghost use Rattle.whole.specs.Centred.{centred};
-ghost use Rattle.modular.specs.Loans.{Modulus, Near};
+ghost use Rattle.scheme.specs.Loans.{Modulus, Near};
 use crate::centre::centre;
 use crate::centre::one_turn;
 

@@ -2,7 +2,7 @@ ghost use mathlib.Core.Path.{_≡_};
 ghost use Prim.Native.Nat.{_≤_};
 ghost use lib.IntN.{natAbs};
 ghost use Rattle.whole.specs.Round.{round};
-ghost use Rattle.modular.specs.Loans.{Modulus};
+ghost use Rattle.scheme.specs.Loans.{Modulus};
 
 // round(a/q), a half up: (a + q/2)/q rounded down. The modulus is even, so q/2 is whole.
 pub fn round_quotient(a: i64, q: u32) -> i64

@@ -6,12 +6,12 @@ ghost use Rattle.refusal.specs.First.{firstTrue, firstOf};
 ghost use Rattle.scheme.specs.Arithmetic.{XOR-bound, AND-bound, NOT-bound};
 ghost use Rattle.circuit.specs.Circuits.{byKind, overGates, boundsOf, records, asLists};
 ghost use Rattle.circuit.specs.Plan.{planLoans, planFront, PlanPromise};
-ghost use Rattle.gates.specs.Ready.{AndBoundReady};
+ghost use Rattle.bound.specs.Ready.{AndBoundReady};
 ghost use Rattle.planning.specs.Ready.{SettleReady};
+use bound::and_bound;
 use checks::are_bad_counts;
 use checks::first_wrong;
 use checks::is_some_over;
-use gates::and_bound;
 use refusal::Params;
 use refusal::Refusal;
 

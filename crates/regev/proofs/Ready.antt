@@ -15,7 +15,7 @@ use Rattle.refusal.specs.Parameters.{InRange}
 use Rattle.scheme.specs.Arithmetic.{isResidue}
 use Rattle.scheme.specs.Calls.{EncryptLoans, encryptRows, DecryptLoans, decryptRows}
 use Rattle.scheme.specs.Passed.{params-in-range, length-is, key-within, bit-within, entries-inside, errors-within}
-use Rattle.modular.specs.Loans.{Modulus}
+use Rattle.scheme.specs.Loans.{Modulus}
 use Rattle.keys.specs.Chain.{params-modulus}
 use Rattle.regev.specs.Ready.{EncryptIntoReady}
 

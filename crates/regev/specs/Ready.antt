@@ -8,7 +8,7 @@ use lib.ListN.{length}
 use Rattle.whole.specs.Lists.{every}
 use Rattle.whole.specs.Inner.{sizes}
 use Rattle.scheme.specs.Arithmetic.{isResidue}
-use Rattle.modular.specs.Loans.{Modulus}
+use Rattle.scheme.specs.Loans.{Modulus}
 
 pub record EncryptIntoReady (q : ℕ) (s : List ℤ) (b : ℕ) (mask : List ℤ) (e : ℤ) (out : List ℤ) : Type 0 where
   pub modulus : Modulus q

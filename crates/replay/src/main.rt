@@ -2,14 +2,14 @@
 // a call, in the order of the calls. docs/REPLAY.md has the format.
 ghost use Rattle.stream.specs.Bounds.{Placed};
 
-mod ciphers;
 mod circuits;
-mod files;
-mod gate;
-mod key;
 mod lending;
-mod sets;
 
+use answers::ciphers;
+use answers::files;
+use answers::gate;
+use answers::key;
+use answers::sets;
 use calls::read::LONG;
 use calls::read::STORE;
 

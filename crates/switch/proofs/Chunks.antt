@@ -16,7 +16,7 @@ use Rattle.whole.specs.Rem.{quot-rem, rem-size, quot-times-size}
 use Rattle.whole.specs.Lists.{each-part}
 use Rattle.whole.specs.Machine.{word, fits64}
 use Rattle.whole.specs.Inner.{inner, inner-part, inner-most}
-use Rattle.modular.specs.Loans.{UpTo}
+use Rattle.scheme.specs.Loans.{UpTo}
 
 -- hi·2^20 + lo is the sum of the first j products, and the two are at most b·2^38 and b·2^16 in size
 pub record Held (t row : List ℤ) (j b : ℕ) (hi lo : ℤ) : Type 0 where

@@ -7,7 +7,7 @@ ghost use lib.ListN.{length};
 ghost use Rattle.whole.specs.Inner.{inner};
 ghost use Rattle.whole.specs.Lists.{every};
 ghost use Rattle.scheme.specs.Arithmetic.{isResidue, switchEntry, switch};
-ghost use Rattle.modular.specs.Loans.{Modulus, UpTo};
+ghost use Rattle.scheme.specs.Loans.{Modulus, UpTo};
 use modular::big_residue::BigResidue;
 use modular::residue::Residue;
 use modular::wide::Wide;

@@ -1,26 +1,26 @@
--- What the makers of a switching key work by once their number is 0 (`make-key-ready`), and what they write: that row 0 is filled entry by
--- entry (`entry-at`), that a key is row 0 and then the masks (`two-parts`), and its four rows of sixteen (`switching-rows`). Assumes nothing.
+-- What the maker of a switching key works by once its number is 0 (`make-key-ready`), and what it writes: that row 0 is filled entry by entry (`entry-at`), and
+-- that a key is row 0 and then the masks (`two-parts`). Assumes nothing.
 use mathlib.Core.Path.{_≡_, refl, sym, ap, ap₂, _∙_}
-use mathlib.Core.List.{List, [], _∷_, _++_, append-nil}
+use mathlib.Core.List.{List, _++_, append-nil}
 use Prim.Native.Nat.{ℕ, suc, _+_, _*_, _-_, _/_, _%_, _≤_, _<_}
 use native.Mathlib.Nat.{le-trans, suc-mul}
 use native.Mathlib.Omega.{arith}
 use lib.IntN.{ℤ, pos, _+ℤ_, _-ℤ_, _*ℤ_}
-use lib.ListN.{length, getD, take, drop, length-append, drop-of-length-le}
-use lib.Seq.{take-at, drop-at, drop-drop}
+use lib.ListN.{length, getD, drop, length-append, drop-of-length-le}
+use lib.Seq.{take-at, drop-at}
 use borrow.Rule.Slice.PartMut.{putMid}
 use Rattle.whole.specs.Tests.{or-left, or-right}
 use Rattle.whole.specs.Centred.{centred}
-use Rattle.whole.specs.Lists.{tabulate, length-tabulate, getD-tabulate, getD-each, each-getD, cut}
+use Rattle.whole.specs.Lists.{tabulate, getD-tabulate, getD-each, each-getD}
 use Rattle.whole.specs.Inner.{inner}
 use Rattle.refusal.specs.First.{firstOf, Clear}
 use Rattle.refusal.specs.Order.{positionIn, order, position, inOrder, first-clear}
 use Rattle.refusal.specs.Parameters.{InRange}
-use Rattle.scheme.specs.Arithmetic.{maskColumn, rowZeroEntry, switchingKey}
+use Rattle.scheme.specs.Arithmetic.{maskColumn, rowZeroEntry}
 use Rattle.scheme.specs.Calls.{MakeKeyLoans, makeKeyRows}
 use Rattle.scheme.specs.Passed.{params-in-range, length-is, key-within, entries-inside, errors-within}
-use Rattle.modular.specs.Loans.{Modulus, UpTo, square}
-use Rattle.modular.specs.Residues.{residues-upto}
+use Rattle.scheme.specs.Loans.{Modulus, UpTo, square}
+use Rattle.scheme.specs.Residues.{residues-upto}
 use Rattle.keys.specs.Chain.{params-modulus}
 use Rattle.switchingkey.specs.Ready.{FillRowZeroReady, MakeKeyReady}
 
@@ -81,10 +81,3 @@ pub two-parts : {A : Type 0} (first second rest : List A) (k : ℕ) → length f
 two-parts first second rest k e =
     let l : length rest ≤ length (first ++ rest) - k = omega (arith, length-append first rest) in
     rw (take-at first rest k, drop-at first rest k, drop-of-length-le rest, append-nil)
-
-pub switching-rows : (s masks f : List ℤ) {row : List ℤ} → row ≡ tabulate 16 (rowZeroEntry 4 65536 s masks f)
-    → row ∷ take 16 masks ∷ take 16 (drop 16 masks) ∷ take 16 (drop 32 masks) ∷ [] ≡ cut 16 4 (switchingKey 4 65536 s masks f)
-unfolding cut switchingKey
-switching-rows s masks f e =
-    let l : length (tabulate 16 (rowZeroEntry 4 65536 s masks f)) ≡ 16 = length-tabulate 16 (rowZeroEntry 4 65536 s masks f) in
-    rw (e, take-at (tabulate 16 (rowZeroEntry 4 65536 s masks f)) masks 16 l) (simp (drop-at, l, drop-drop))

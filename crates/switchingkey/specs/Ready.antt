@@ -1,4 +1,4 @@
--- What `row_zero_entry`, `fill_row_zero` and `bench_row_zero` ask. n is the length of the key.
+-- What `row_zero_entry` and `fill_row_zero` ask. n is the length of the key.
 use mathlib.Core.Path.{_≡_}
 use mathlib.Core.List.{List}
 use Prim.Native.Nat.{ℕ, _+_, _*_, _-_, _≤_, _<_}
@@ -6,7 +6,7 @@ use lib.IntN.{ℤ, natAbs}
 use lib.ListN.{length}
 use Rattle.whole.specs.Inner.{sizes}
 use Rattle.scheme.specs.Calls.{MakeKeyLoans}
-use Rattle.modular.specs.Loans.{Modulus, UpTo}
+use Rattle.scheme.specs.Loans.{Modulus, UpTo}
 
 -- row 0, of the modulus, the key and the masks
 pub record RowZeroReady (q : ℕ) (s masks : List ℤ) : Type 0 where

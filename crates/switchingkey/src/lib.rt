@@ -1,7 +1,5 @@
-// Switching keys and the bench key: document 01's calls on them. Every call takes arbitrary numbers and buffers and refuses bad ones by number; the
-// functions that it works by stand beside it.
-pub mod bench;
-
+// Switching keys: document 01's *Switching key*. The call takes arbitrary numbers and buffers and refuses bad ones by number; the functions that it works by stand
+// beside it.
 ghost use mathlib.Core.Path.{_≡_};
 ghost use Prim.Native.Nat.{_*_, _/_, _%_};
 ghost use lib.IntN.{pos, _+ℤ_, _-ℤ_, _*ℤ_};
@@ -18,8 +16,8 @@ use keys::tests::is_exceeding;
 use keys::tests::is_outside_big;
 use keys::tests::length_differs;
 use modular::big_residue::BigResidue;
-use modular::buffer::copy;
-use modular::key::inner_column;
+use passes::buffer::copy;
+use passes::key::inner_column;
 use refusal::Params;
 use refusal::Refusal;
 

@@ -16,7 +16,7 @@ use Rattle.whole.specs.Floor.{Floor, times-lt, times-le, next-multiple}
 use Rattle.whole.specs.Round.{round, round-even}
 use Rattle.scheme.specs.Arithmetic.{isResidue}
 use Rattle.scheme.specs.Wording.{residue-size}
-use Rattle.modular.specs.Loans.{Modulus}
+use Rattle.scheme.specs.Loans.{Modulus}
 use Rattle.tensor.specs.Lines.{reciprocalOf}
 
 -- what the slope, times q/2, is off from x·2^42

@@ -7,7 +7,7 @@ ghost use lib.IntN.{pos};
 ghost use lib.ListN.{length};
 ghost use Rattle.whole.specs.Lists.{every};
 ghost use Rattle.scheme.specs.Arithmetic.{isResidue, tensorEntry, tensor};
-ghost use Rattle.modular.specs.Loans.{Modulus};
+ghost use Rattle.scheme.specs.Loans.{Modulus};
 ghost use Rattle.tensor.specs.Lines.{reciprocalOf};
 use modular::residue::Residue;
 

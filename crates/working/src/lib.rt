@@ -11,8 +11,8 @@ ghost use Rattle.working.specs.Ready.{EvaluateReady, RoomReady, WorkGate
 use gates::and_into;
 use gates::not_into;
 use gates::xor_into;
-use modular::buffer::copy;
-use modular::buffer::zero;
+use passes::buffer::copy;
+use passes::buffer::zero;
 use refusal::Params;
 
 // What a gate makes of its operands c and d, into the stretch of its own wire; NOT takes c alone.

@@ -17,7 +17,7 @@ use Rattle.whole.specs.Lists.{every-getD}
 use Rattle.whole.specs.Machine.{fits64}
 use Rattle.scheme.specs.Arithmetic.{half, isResidue, NOT}
 use Rattle.scheme.specs.Wording.{residue-size}
-use Rattle.modular.specs.Loans.{Modulus}
+use Rattle.scheme.specs.Loans.{Modulus}
 use Rattle.gates.proofs.Added.{sum-fits, sum-near, sum-is}
 use Rattle.gates.proofs.not_into.Statement.{statement}
 use Rattle.gates.proofs.not_into.Tie as tie

@@ -11,7 +11,7 @@ use borrow.Author.Needs.{needs, sfits-of}
 use Rattle.whole.specs.Centred.{centred, centred-half}
 use Rattle.whole.specs.Inner.{inner}
 use Rattle.scheme.specs.Arithmetic.{decrypt}
-use Rattle.modular.specs.Residues.{residues-upto}
+use Rattle.scheme.specs.Residues.{residues-upto}
 use Rattle.regev.proofs.decrypt_bit.Statement.{statement}
 use Rattle.regev.proofs.decrypt_bit.Tie as tie
 

@@ -19,7 +19,7 @@ use Rattle.whole.specs.Centred.{centred}
 use Rattle.whole.specs.Inner.{inner, inner-size, sizes-drop}
 use Rattle.whole.specs.Machine.{fits64}
 use Rattle.scheme.specs.Arithmetic.{half, encrypt}
-use Rattle.modular.specs.Residues.{residues-upto}
+use Rattle.scheme.specs.Residues.{residues-upto}
 use Rattle.keys.specs.Chain.{Masked, masked}
 use Rattle.regev.proofs.encrypt_into.Statement.{statement}
 use Rattle.regev.proofs.encrypt_into.Tie as tie

@@ -10,7 +10,7 @@ use mir.Facts.{toZ-ofZ}
 use borrow.Author.Needs.{needs, sfits-of}
 use Rattle.whole.specs.Inner.{sizes-most}
 use Rattle.whole.specs.Machine.{word}
-use Rattle.modular.proofs.Sums.{Summed, Turn, sum-start, sum-end, turn}
+use Rattle.passes.proofs.Sums.{Summed, Turn, sum-start, sum-end, turn}
 use Rattle.switch.proofs.inner_rest.Statement.{statement}
 use Rattle.switch.proofs.inner_rest.Tie as tie
 

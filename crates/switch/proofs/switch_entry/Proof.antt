@@ -9,7 +9,7 @@ use Rattle.whole.specs.Round.{round}
 use Rattle.whole.specs.Inner.{inner}
 use Rattle.whole.specs.Centred.{centred, centred-half}
 use Rattle.scheme.specs.Arithmetic.{switchEntry}
-use Rattle.modular.specs.Residues.{residues-upto}
+use Rattle.scheme.specs.Residues.{residues-upto}
 use Rattle.switch.proofs.Switching.{entry-reduced}
 use Rattle.switch.proofs.switch_entry.Statement.{statement}
 use Rattle.switch.proofs.switch_entry.Tie as tie

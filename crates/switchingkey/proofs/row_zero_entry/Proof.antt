@@ -18,7 +18,7 @@ use Rattle.whole.specs.Size.{size-add, size-sub, size-mul}
 use Rattle.whole.specs.Machine.{word, word-is, sfits-word, widened, fits64}
 use Rattle.whole.specs.Inner.{inner, inner-size, sizes, sizes-drop, entry-size, each-column-cut}
 use Rattle.scheme.specs.Arithmetic.{maskColumn}
-use Rattle.modular.specs.Loans.{UpTo}
+use Rattle.scheme.specs.Loans.{UpTo}
 use Rattle.switchingkey.proofs.row_zero_entry.Statement.{statement}
 use Rattle.switchingkey.proofs.row_zero_entry.Tie as tie
 

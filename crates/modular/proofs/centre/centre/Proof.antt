@@ -13,7 +13,7 @@ use borrow.Author.Needs.{needs, sfits-of}
 use Rattle.whole.specs.Rem.{quot-rem, rem-size}
 use Rattle.whole.specs.Centred.{centred, centred-turn}
 use Rattle.whole.specs.Machine.{quot-fits, rem-fits}
-use Rattle.modular.specs.Loans.{size-near}
+use Rattle.scheme.specs.Loans.{size-near}
 use Rattle.modular.proofs.centre.centre.Statement.{statement}
 use Rattle.modular.proofs.centre.centre.Tie as tie
 

@@ -15,7 +15,7 @@ use Rattle.whole.specs.Split.{zarith, add-is, sub-is, mul-is, up-neg, dn-neg, s
 use Rattle.whole.specs.Size.{size-add, size-sub, size-mul}
 use Rattle.whole.specs.Centred.{centred, centred-eq, centred-id}
 use Rattle.whole.specs.Machine.{fits64}
-use Rattle.modular.specs.Loans.{Near}
+use Rattle.scheme.specs.Loans.{Near}
 use Rattle.modular.proofs.centre.one_turn.Statement.{statement}
 use Rattle.modular.proofs.centre.one_turn.Tie as tie
 

@@ -4,7 +4,7 @@ use mathlib.Core.Path.{_∙_}
 use native.Mathlib.Omega.{arith}
 use mir.Facts.{toZ-ofZ}
 use borrow.Author.Needs.{sfits-of}
-use Rattle.modular.specs.Loans.{square}
+use Rattle.scheme.specs.Loans.{square}
 use Rattle.modular.proofs.big_residue.BigResidue.of.Statement.{statement}
 use Rattle.modular.proofs.big_residue.BigResidue.of.Tie as tie
 

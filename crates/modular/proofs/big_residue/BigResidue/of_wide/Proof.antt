@@ -17,7 +17,7 @@ use Rattle.whole.specs.Size.{size-add, size-mul}
 use Rattle.whole.specs.Rem.{quot-rem, rem-size}
 use Rattle.whole.specs.Centred.{centred, centred-turn}
 use Rattle.whole.specs.Machine.{word, fits64, quot-fits, rem-fits}
-use Rattle.modular.specs.Loans.{square}
+use Rattle.scheme.specs.Loans.{square}
 use Rattle.modular.proofs.big_residue.BigResidue.of_wide.Statement.{statement}
 use Rattle.modular.proofs.big_residue.BigResidue.of_wide.Tie as tie
 

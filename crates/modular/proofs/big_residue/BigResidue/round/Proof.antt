@@ -10,7 +10,7 @@ use borrow.Author.Needs.{sfits-of}
 use Rattle.whole.specs.Round.{round, round-size}
 use Rattle.whole.specs.Centred.{centred}
 use Rattle.whole.specs.Machine.{word}
-use Rattle.modular.specs.Loans.{Modulus, square}
+use Rattle.scheme.specs.Loans.{Modulus, square}
 use Rattle.modular.proofs.big_residue.BigResidue.round.Statement.{statement}
 use Rattle.modular.proofs.big_residue.BigResidue.round.Tie as tie
 
