@@ -1,17 +1,18 @@
 -- What follows, fact by fact, where the rows in front do not apply, of planning and of evaluation. No other file counts rows.
-use Rattle.std.specs.Prelude.{◌≡◌, refl, true, false, List, ◌++◌, ◌*◌, length, take}
+use Rattle.std.specs.Prelude.{◌≡◌, refl, true, false, ◌*◌, length, take}
 use Rattle.std.proofs.lemmas.Bool.{not-false}
 use Rattle.whole.specs.Lists.{every}
 use Rattle.whole.specs.Tests.{or_left, or_right}
-use Rattle.refusal.specs.First.{Row, first_of, Clear, clear_append}
-use Rattle.refusal.specs.Order.{position_in, order, position, in_order, first_clear}
+use Rattle.refusal.specs.First.{first_of, Clear}
+use Rattle.refusal.specs.Order.{position_in, order, position, in_order}
+use Rattle.refusal.proofs.Order.{first_clear}
 use Rattle.refusal.specs.Parameters.{InRange}
 use Rattle.scheme.specs.Arithmetic.{fits, is_residue}
 use Rattle.scheme.specs.Calls.{bad_params, outside}
 use Rattle.scheme.specs.Passed.{params_in_range, length_is, entries_inside}
-use Rattle.circuit.specs.Circuits.{bad_counts, gate_rows}
-use Rattle.circuit.specs.Plan.{PlanLoans, wire_count, stated, shared_rows, circuit_rows, plan_front}
-use Rattle.circuit.specs.Evaluate.{EvaluateLoans, evaluate_front, evaluate_rows}
+use Rattle.circuit.specs.Circuits.{bad_counts}
+use Rattle.circuit.specs.Plan.{PlanLoans, wire_count, stated, circuit_rows, plan_front}
+use Rattle.circuit.specs.Evaluate.{EvaluateLoans, evaluate_front}
 
 -- ---- planning
 
@@ -80,11 +81,3 @@ pub record EvaluateDone (a : EvaluateLoans) : Type 0 where
   pub passed : EvaluatePassed a
   pub fit : every (fits a.plan.p.q) (stated a.plan) ≡ true
   pub gates_clear : Clear (circuit_rows a.plan)
-
-pub evaluate_done : (a : EvaluateLoans) → first_of (evaluate_rows a) ≡ 0 → EvaluateDone a
-unfolding evaluate_rows evaluate_front gate_rows position_in order position in_order
-evaluate_done a e =
-    let l = a.plan in
-    let late : List Row = shared_rows l ++ circuit_rows l in
-    let (front, rest) = clear_append (evaluate_front a) late (first_clear (evaluate_rows a) refl e) in
-    record { passed = evaluate_passed a front; fit = not-false _ rest.0.0; gates_clear = (clear_append (shared_rows l) (circuit_rows l) rest).1 }

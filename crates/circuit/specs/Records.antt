@@ -1,22 +1,16 @@
 -- The gate records of three lists of one length are the lists' entries side by side, the tests for 9 and for 10 are one for each gate, and a
 -- gate that is not wrong has its operands below its own wire.
-use Rattle.std.specs.Prelude.{◌≡◌, refl, Bool, not, ◌||◌, List, [], ◌∷◌, ℕ, zero, suc, ◌+◌, ◌<◌, leb, ltb, eqb, length, get_or, drop}
+use Rattle.std.specs.Prelude.{◌≡◌, refl, Bool, not, ◌||◌, List, [], ◌∷◌, ℕ, zero, suc, ◌+◌, ◌<◌, leb, ltb, eqb, length, get_or}
 use Rattle.std.proofs.Common.{sym, ap, ◌∙◌, add-zero, le_of_suc-le-suc, not-suc-le-zero, arith, ltb-true, eqb-true}
 use Rattle.std.proofs.Math.Bool.{false}
 use Rattle.std.proofs.Math.Nat.{suc_inj}
-use Rattle.std.proofs.lemmas.List.{length-map}
-use Rattle.std.proofs.Math.ListN.{length-drop}
-use Rattle.std.proofs.Math.Seq.{get_or-drop}
 use Rattle.std.proofs.lemmas.Bool.{not-false}
 use Rattle.whole.specs.Tests.{or_left, or_right, or_neither}
-use Rattle.whole.specs.Lists.{get_or_map}
-use Rattle.refusal.specs.declared.Params.{Params}
 use Rattle.refusal.specs.First.{some_true, none_at}
-use Rattle.scheme.specs.Calls.{differs, over_budget}
+use Rattle.scheme.specs.Calls.{differs}
 use Rattle.scheme.specs.Passed.{length_is, lengths_same}
 use Rattle.circuit.specs.declared.Gate.{Gate}
-use Rattle.circuit.specs.Circuits.{gate, by_kind, gate_bound, wrong_gate, wrong_gates, bounds_of, over_gates, records, uneven_lists, as_records, as_lists}
-use Rattle.circuit.specs.Run.{length_run}
+use Rattle.circuit.specs.Circuits.{gate, by_kind, wrong_gate, wrong_gates, records, uneven_lists, as_records, as_lists}
 
 -- ---- the records
 
@@ -75,24 +69,6 @@ pub get_or_wrong_records : (own : ℕ) (ks ls rs : List ℕ) (i : ℕ) → lengt
     → get_or (wrong_gates own (records ks ls rs)) i false ≡ wrong_gate (own + i) (gate (get_or ks i 0) (get_or ls i 0) (get_or rs i 0))
 get_or_wrong_records own ks ls rs i e f h =
     get_or_wrong_gates own (records ks ls rs) i (gate 0 0 0) (rw length_records h) ∙ rw get_or_records
-
--- ---- the tests for 10
-
-module _ (p : Params) (gs : List Gate) (Bs : List ℕ) where
-  pub length_bounds_of : length (bounds_of p gs Bs) ≡ length Bs + length gs
-  unfolding bounds_of
-  length_bounds_of = length_run (gate_bound p) gs Bs
-
-  pub length_over_gates : length (over_gates p gs Bs) ≡ length gs
-  unfolding over_gates
-  length_over_gates = simp (length-map, length-drop) (omega (arith, length_bounds_of))
-
-  -- gate i makes the bound of wire inputs+i
-  pub get_or_over_gates : (i : ℕ) → i < length gs → get_or (over_gates p gs Bs) i false ≡ over_budget p.q (get_or (bounds_of p gs Bs) (length Bs + i) 0)
-  unfolding over_gates
-  get_or_over_gates i h =
-      get_or_map (over_budget p.q) (drop (length Bs) (bounds_of p gs Bs)) i 0 false (simp length-drop (omega (arith, length_bounds_of)))
-      ∙ rw get_or-drop
 
 -- ---- a gate that is not wrong
 

@@ -1,7 +1,7 @@
 -- What it tells that no gate is wrong, what a gate makes of its operands, and that the wires of an evaluation are ciphertexts: n residues each.
 use Rattle.std.specs.Prelude.{◌≡◌, refl, true, false, List, [], ℕ, zero, suc, ◌+◌, ◌*◌, ◌≤◌, ◌<◌, ℤ, length, get_or, take, drop}
 use Rattle.std.proofs.Common.{sym, ◌∙◌, arith, length-drop, length-take-le}
-use Rattle.whole.specs.Lists.{Each, each_get_or, get_or_each, every, all-part-take, cut, length_cut, get_or_cut, row_ends}
+use Rattle.whole.specs.Lists.{Each, each_get_or, get_or_each, every, all_part_take, cut, length_cut, get_or_cut, row_ends}
 use Rattle.refusal.specs.declared.Params.{Params}
 use Rattle.refusal.specs.First.{some_true, none_at}
 use Rattle.refusal.specs.Parameters.{InRange}
@@ -36,7 +36,7 @@ pub part_wire : (p : Params) (a to : ℕ) (wires : List ℤ) → a + p.n ≤ to 
 part_wire p a to wires h g e =
     record {
       long = length-take-le p.n (drop a wires) (simp length-drop (omega arith));
-      inside = all-part-take (is_residue p.q) a p.n to wires h e;
+      inside = all_part_take (is_residue p.q) a p.n to wires h e;
     }
 
 -- the inputs are, where their entries are residues

@@ -9,7 +9,7 @@ use Rattle.refusal.specs.First.{first_of, first_row, first_none}
 use Rattle.scheme.specs.Calls.{bad_params, differs}
 use Rattle.scheme.specs.Passed.{differs_is}
 use Rattle.circuit.specs.Circuits.{bad_counts}
-use Rattle.circuit.specs.Answers.{gates-within}
+use Rattle.circuit.specs.Answers.{gates_within}
 use Rattle.circuitfile.specs.File.{big_endian, field, is_known, file_params, file_inputs, file_gate_count, head_rows}
 use Rattle.circuitfile.specs.Text.{word_refused, text}
 use Rattle.circuitfile.specs.Order.{check_headed}
@@ -83,7 +83,7 @@ long_head file h =
     by_counts false e =
         rw (
           differs_is,
-          ne_eqb (length file) (23 + 5 * file_gate_count file) (λ z. omega (arith, gates-within (file_inputs file) (file_gate_count file) e)),
+          ne_eqb (length file) (23 + 5 * file_gate_count file) (λ z. omega (arith, gates_within (file_inputs file) (file_gate_count file) e)),
         )
 
 -- ---- so its text is that of its first 20,504 bytes

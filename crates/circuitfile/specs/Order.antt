@@ -11,8 +11,9 @@ use Rattle.refusal.specs.Parameters.{within, InRange}
 use Rattle.scheme.specs.Calls.{bad_params, differs}
 use Rattle.scheme.specs.Passed.{params_in_range, length_is}
 use Rattle.circuit.specs.Circuits.{bad_counts, gate_rows}
-use Rattle.circuit.specs.Answers.{inputs-within, gates-within}
-use Rattle.circuit.specs.Records.{length_wrong_gates, length_over_gates}
+use Rattle.circuit.specs.Answers.{inputs_within, gates_within}
+use Rattle.circuit.specs.Records.{length_wrong_gates}
+use Rattle.circuit.proofs.Records.{length_over_gates}
 use Rattle.circuitfile.specs.File.{file_params, file_inputs, file_gate_count, file_gate, file_gates, file_input_bounds, head_rows, file_gate_rows, check_rows, plan_file_rows}
 
 -- ---- the answers, with number and place apart: of the gates alone, of the check, and of planning
@@ -74,8 +75,8 @@ module _ (file : List ℕ) where
   unfolding head_rows
   clear_right t =
       let counts = t.1.1.1.0.0 in
-      let inputs : file_inputs file ≤ 1024 = inputs-within (file_inputs file) (file_gate_count file) counts in
-      let gates : file_gate_count file ≤ 4096 = gates-within (file_inputs file) (file_gate_count file) counts in
+      let inputs : file_inputs file ≤ 1024 = inputs_within (file_inputs file) (file_gate_count file) counts in
+      let gates : file_gate_count file ≤ 4096 = gates_within (file_inputs file) (file_gate_count file) counts in
       record {
         clear = t;
         enough = ltb-false (length file) 23 t.0.0;

@@ -5,7 +5,7 @@ use Rattle.std.proofs.Common.{◌∙◌}
 use Prim.Native.Nat.{ℕ, ◌+◌}
 use Rattle.std.proofs.Math.ListN.{length-replicate}
 use Rattle.whole.specs.Lists.{length_tabulate}
-use Rattle.circuit.specs.Records.{length_bounds_of}
+use Rattle.circuit.proofs.Records.{length_bounds_of}
 use Rattle.circuitfile.specs.File.{file_params, file_inputs, file_gate_count, file_gate, file_gates, file_input_bounds, file_bounds}
 
 module _ (file : List ℕ) where

@@ -10,16 +10,16 @@ use Rattle.std.proofs.Math.IntN.{ℤ, pos}
 use Rattle.whole.specs.Tests.{and_both, or_left, or_right}
 use Rattle.whole.specs.Laws.{one-*ℤ}
 use Rattle.whole.specs.Ring.{by_ring, quote}
-use Rattle.whole.specs.Centred.{centred, centred_le, centred_add}
+use Rattle.whole.specs.Centred.{centred}
+use Rattle.whole.proofs.Centred.{centred_le, centred_add}
 use Rattle.whole.specs.Lists.{tabulate, length_tabulate, get_or_tabulate, tabulate_cong, tabulate_take, Each, each_get_or, each_tabulate, every, every_append, every_get_or, every_drop, each_every, cut}
 use Rattle.whole.specs.Inner.{inner, column}
 use Rattle.refusal.specs.declared.Refusal.{Refusal}
-use Rattle.refusal.specs.First.{first_of, done_or_done, Clear, first_row, first_none}
-use Rattle.refusal.specs.Order.{position_in, order, position, in_order, first_clear}
-use Rattle.refusal.specs.Parameters.{InRange}
+use Rattle.refusal.specs.First.{first_of, Clear, first_row, first_none}
+use Rattle.refusal.specs.Order.{position_in, order, position, in_order}
+use Rattle.refusal.proofs.Order.{first_clear}
 use Rattle.scheme.specs.Arithmetic.{is_residue, key_rows, mask_column, row_zero_entry, switching_key}
-use Rattle.scheme.specs.Calls.{differs, key_check_loans, key_check_rows, key_check_answer, MakeKeyLoans, make_key_rows, make_key_answer, make_key_result, MakeKeyPromise}
-use Rattle.scheme.specs.Passed.{params_in_range, length_is, key_begins, entries_inside, errors_within}
+use Rattle.scheme.specs.Calls.{differs, key_check_loans, key_check_rows, key_check_answer, MakeKeyLoans, make_key_rows, make_key_answer, MakeKeyPromise}
 use Rattle.scheme.specs.Wording.{even_square, centred_residue, residue_centred, key_masks}
 
 -- the error of column j = u·n+v under s: what <s, column j> is beside q·su·sv, as a residue of q²
@@ -146,26 +146,6 @@ module _ (n q : ℕ) (s : List ℤ) (some : 0 < n) (h : 0 < q) (even : q ≡ 2 *
       }
 
 -- ---- through the call: where the maker answers 0, what it left is built for the key that it was lent
-
-pub maker_builds : {a : MakeKeyLoans} {r : Refusal} {W : List ℤ} → MakeKeyPromise a r W → r.number ≡ 0 → BuiltFor a.p.n a.p.q a.p.f a.key W
-unfolding position_in order position in_order make_key_rows make_key_answer make_key_result
-maker_builds {a} {r} {W} promise none =
-    let done : first_of (make_key_rows a) ≡ 0 = sym (ap (λ (x : Refusal). x.number) promise.answer) ∙ none in
-    let clear : Clear (make_key_rows a) = first_clear (make_key_rows a) refl done in
-    let p = a.p in
-    let n : ℕ = p.n in
-    let range : InRange p = params_in_range p clear.0.0 in
-    let lengths = clear.1.0.0 in
-    made→built n p.q a.key (omega (arith, range.n_low)) (omega (arith, range.q_low)) range.q_even (key_begins p.l a.key clear.1.1.0.0) p.f W
-    (record {
-      masks = a.masks;
-      masks_long = length_is (length a.masks) ((n - 1) * (n * n)) (search (or_left, or_right, lengths) depth 10);
-      masks_residues = entries_inside (p.q * p.q) a.masks clear.1.1.1.0.0;
-      f = a.errors;
-      f_long = length_is (length a.errors) (n * n) (search (or_left, or_right, lengths) depth 10);
-      f_small = errors_within p.f a.errors clear.1.1.1.1.0.0;
-      made = promise.result_left ∙ done_or_done _ a.result done;
-    })
 
 -- and that key passes the key check
 pub maker_key : {a : MakeKeyLoans} {r : Refusal} {W : List ℤ} → MakeKeyPromise a r W → r.number ≡ 0 → (key_check_answer (key_check_loans a.p a.key)).number ≡ 0

@@ -7,7 +7,7 @@ use Rattle.whole.specs.Ring.{by_ring, quote, from_eq}
 use Rattle.whole.specs.Size.{size_mul}
 use Rattle.whole.specs.Round.{round, round_near}
 use Rattle.whole.specs.Centred.{Centred, centred, centred_is}
-use Rattle.whole.specs.Lists.{every, every-each, Each, each_map, each_always}
+use Rattle.whole.specs.Lists.{every, every_each, Each, each_map, each_always}
 use Rattle.whole.specs.Inner.{inner, sizes, inner_map_scale, inner_map_sub, inner_size}
 use Rattle.scheme.specs.Arithmetic.{is_residue}
 use Rattle.scheme.specs.Wording.{residue_size}
@@ -34,9 +34,9 @@ module _ (q : ℕ) (h : 0 < q) (s : List ℤ) where
       ∙ ap₂ ◌-ℤ◌ (ap (inner s) (map-id zs)) (inner_map_scale (pos q) (turns_of q h) s zs)
 
   -- the same of the values of f on any list
-  pub inner-reduced-map {ℓ} : {A : Type ℓ} (f : A → ℤ) (ps : List A)
+  pub inner_reduced_map {ℓ} : {A : Type ℓ} (f : A → ℤ) (ps : List A)
       → inner s (map (λ p. centred q (f p)) ps) ≡ inner s (map f ps) -ℤ pos q *ℤ inner s (map (λ p. turns_of q h (f p)) ps)
-  inner-reduced-map f ps = simp map-map at (inner_reduced (map f ps))
+  inner_reduced_map f ps = simp map-map at (inner_reduced (map f ps))
 
 -- ---- rounded
 
@@ -64,7 +64,7 @@ rounded q h s zs =
     record {
       turns = k;
       off = pos q *ℤ r -ℤ inner s zs;
-      sum = ap (λ z. pos q *ℤ z) (inner-reduced-map q h s (λ z. round z q) zs) ∙ regroup (pos q) r k (inner s zs);
+      sum = ap (λ z. pos q *ℤ z) (inner_reduced_map q h s (λ z. round z q) zs) ∙ regroup (pos q) r k (inner s zs);
       small = rw (← size_mul (pos 2) (pos q *ℤ r -ℤ inner s zs)) (inner_rounded q h s zs);
     }
 
@@ -72,4 +72,4 @@ rounded q h s zs =
 
 -- every entry of a ciphertext is at most q/2 in size
 pub residues_size : (q : ℕ) (c : List ℤ) → every (is_residue q) c ≡ true → Each (λ x. nat_abs x ≤ q / 2) c
-residues_size q c = every-each (is_residue q) c (residue_size q)
+residues_size q c = every_each (is_residue q) c (residue_size q)

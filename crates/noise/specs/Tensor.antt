@@ -1,17 +1,16 @@
 -- Fact T, the tensor of two ciphertexts: <s⊗s, tensor> = b1·b2·q/2 + e up to a multiple of q, and the whole number e is at most the first
 -- floor of the AND bound. Any row s will do: only its sum of sizes matters. Of rounding only how near it stays is used.
-use Rattle.std.specs.Prelude.{◌≡◌, List, [], ◌∷◌, map, ℕ, ◌+◌, ◌*◌, ◌/◌, ◌≤◌, ◌<◌, length, ℤ, pos, ◌+ℤ◌, ◌-ℤ◌, ◌*ℤ◌, nat_abs}
-use Rattle.std.proofs.Common.{sym, ap, ap₂, ◌∙◌, mul-le-mul, mul-le-mul_left, mul-le-mul_right, le-div_iff_mul-le, arith}
+use Rattle.std.specs.Prelude.{◌≡◌, List, map, ℕ, ◌+◌, ◌*◌, ◌/◌, ◌≤◌, ◌<◌, ℤ, pos, ◌+ℤ◌, ◌*ℤ◌, nat_abs}
+use Rattle.std.proofs.Common.{sym, ap, mul-le-mul, mul-le-mul_left, le-div_iff_mul-le, arith}
 use Rattle.whole.specs.Laws.{*ℤ_assoc}
-use Rattle.whole.specs.Ring.{by_ring, quote, from_eq}
 use Rattle.whole.specs.Size.{size_add, size_mul}
 use Rattle.whole.specs.Round.{round}
-use Rattle.whole.specs.Centred.{centred, centred_half}
+use Rattle.whole.specs.Centred.{centred}
+use Rattle.whole.proofs.Centred.{centred_half}
 use Rattle.whole.specs.Lists.{grid, map_grid, Each, each_map, each_always}
-use Rattle.whole.specs.Inner.{inner, sizes, inner_scale, inner_grid, sizes_grid}
+use Rattle.whole.specs.Inner.{inner}
 use Rattle.scheme.specs.Arithmetic.{half, tensor_entry, tensor}
 use Rattle.noise.specs.Noise.{Written}
-use Rattle.noise.specs.Reduced.{Rounded, rounded}
 
 -- the whole number 2k+b of <s,c> = k·q + b·q/2 + e: how many times q/2 stands in it
 abbrev pub halves : {q : ℕ} {s c : List ℤ} {b : ℕ} → Written q s c b → ℤ
@@ -20,11 +19,11 @@ halves {b = b} w = pos 2 *ℤ w.k +ℤ pos b
 -- ---- what the tensor rounds
 
 -- all products 2·cu·dv
-abbrev doubles : List ℤ → List ℤ → List ℤ
+abbrev pub doubles : List ℤ → List ℤ → List ℤ
 doubles c d = map (λ z. pos 2 *ℤ z) (grid ◌*ℤ◌ c d)
 
 -- the tensor is these, divided by q, rounded and reduced
-tensor_rounds : (q : ℕ) (c d : List ℤ) → tensor q c d ≡ map (λ z. centred q (round z q)) (doubles c d)
+pub tensor_rounds : (q : ℕ) (c d : List ℤ) → tensor q c d ≡ map (λ z. centred q (round z q)) (doubles c d)
 unfolding tensor tensor_entry
 tensor_rounds q c d = simp (tensor, tensor_entry, map_grid, *ℤ_assoc)
 
@@ -32,36 +31,6 @@ tensor_rounds q c d = simp (tensor, tensor_entry, map_grid, *ℤ_assoc)
 pub tensor_size : (q : ℕ) (c d : List ℤ) → 0 < q → Each (λ x. nat_abs x ≤ q / 2) (tensor q c d)
 tensor_size q c d h =
     rw tensor_rounds (each_map (λ z. centred q (round z q)) (each_always (λ z. omega (arith, centred_half q (round z q) h)) (doubles c d)))
-
--- the inner product of s⊗s with the 2·cu·dv is 2·<s,c>·<s,d>
-inner_doubles : (s c d : List ℤ) → length s ≡ length d → inner (grid ◌*ℤ◌ s s) (doubles c d) ≡ pos 2 *ℤ (inner s c *ℤ inner s d)
-inner_doubles s c d same = inner_scale (pos 2) (grid ◌*ℤ◌ s s) (grid ◌*ℤ◌ c d) ∙ ap (λ z. pos 2 *ℤ z) (inner_grid s c s d same)
-
--- so q·<s⊗s, tensor> is that, but for what rounding leaves and a multiple of q²
-inner_tensor : (q : ℕ) (s c d : List ℤ) → length s ≡ length d → (r : Rounded q (grid ◌*ℤ◌ s s) (doubles c d))
-    → pos q *ℤ inner (grid ◌*ℤ◌ s s) (tensor q c d) ≡ pos 2 *ℤ (inner s c *ℤ inner s d) +ℤ r.off -ℤ pos q *ℤ (pos q *ℤ r.turns)
-inner_tensor q s c d same r =
-    ap (λ (t : List ℤ). pos q *ℤ inner (grid ◌*ℤ◌ s s) t) (tensor_rounds q c d)
-    ∙ r.sum
-    ∙ ap (λ z. z +ℤ r.off -ℤ pos q *ℤ (pos q *ℤ r.turns)) (inner_doubles s c d same)
-
--- ---- the product multiplied out
-
--- with q = 2h
-multiplied : (q h k1 b1 e1 k2 b2 e2 : ℤ) → q ≡ pos 2 *ℤ h
-    → pos 2 *ℤ ((k1 *ℤ q +ℤ b1 *ℤ h +ℤ e1) *ℤ (k2 *ℤ q +ℤ b2 *ℤ h +ℤ e2))
-    ≡ q *ℤ ((pos 2 *ℤ k1 *ℤ k2 +ℤ k1 *ℤ b2 +ℤ k2 *ℤ b1) *ℤ q +ℤ b1 *ℤ b2 *ℤ h)
-    +ℤ (q *ℤ ((pos 2 *ℤ k1 +ℤ b1) *ℤ e2 +ℤ (pos 2 *ℤ k2 +ℤ b2) *ℤ e1) +ℤ pos 2 *ℤ e1 *ℤ e2)
-multiplied q h k1 b1 e1 k2 b2 e2 even = rw even (by_ring (h ∷ k1 ∷ b1 ∷ e1 ∷ k2 ∷ b2 ∷ e2 ∷ []) (search quote depth 100 fits 100000) tt)
-
--- of two ciphertexts: 2·<s,c>·<s,d> = q·((2·k1·k2 + k1·b2 + k2·b1)·q + b1·b2·q/2) + q·(K1·e2 + K2·e1) + 2·e1·e2
-product : {q : ℕ} {s c d : List ℤ} {b1 b2 : ℕ} (w1 : Written q s c b1) (w2 : Written q s d b2) → q ≡ 2 * (q / 2)
-    → pos 2 *ℤ (inner s c *ℤ inner s d)
-    ≡ pos q *ℤ ((pos 2 *ℤ w1.k *ℤ w2.k +ℤ w1.k *ℤ pos b2 +ℤ w2.k *ℤ pos b1) *ℤ pos q +ℤ pos (b1 * b2) *ℤ half q)
-    +ℤ (pos q *ℤ (halves w1 *ℤ w2.e +ℤ halves w2 *ℤ w1.e) +ℤ pos 2 *ℤ w1.e *ℤ w2.e)
-product {q} {b1 = b1} {b2 = b2} w1 w2 even =
-    ap₂ (λ x y. pos 2 *ℤ (x *ℤ y)) w1.sum w2.sum
-    ∙ multiplied (pos q) (half q) w1.k (pos b1) w1.e w2.k (pos b2) w2.e (ap pos even)
 
 -- ---- the noise
 
@@ -74,27 +43,6 @@ pub record TensorNoise (L : ℕ) {q : ℕ} {s c d : List ℤ} {b1 b2 : ℕ} (w1 
   pub sum : inner (grid ◌*ℤ◌ s s) (tensor q c d) ≡ turns *ℤ pos q +ℤ pos (b1 * b2) *ℤ half q +ℤ e
   pub parts : pos q *ℤ e ≡ pos q *ℤ (halves w1 *ℤ w2.e +ℤ halves w2 *ℤ w1.e) +ℤ pos 2 *ℤ w1.e *ℤ w2.e +ℤ rounding
   pub small : 2 * nat_abs rounding ≤ q * (L * L)
-
--- so it is where the sizes of s sum to at most L and d is as long as s, for every even q
-pub tensor_noise : (q L : ℕ) (s c d : List ℤ) (b1 b2 : ℕ) → 0 < q → q ≡ 2 * (q / 2) → length s ≡ length d → sizes s ≤ L
-    → (w1 : Written q s c b1) (w2 : Written q s d b2) → TensorNoise L w1 w2
-tensor_noise q L s c d b1 b2 h even same key w1 w2 =
-    let t : ℤ = inner (grid ◌*ℤ◌ s s) (tensor q c d) in
-    let k : ℤ = pos 2 *ℤ w1.k *ℤ w2.k +ℤ w1.k *ℤ pos b2 +ℤ w2.k *ℤ pos b1 in
-    let bits : ℤ = pos (b1 * b2) *ℤ half q in
-    let cross : ℤ = pos q *ℤ (halves w1 *ℤ w2.e +ℤ halves w2 *ℤ w1.e) +ℤ pos 2 *ℤ w1.e *ℤ w2.e in
-    let r : Rounded q (grid ◌*ℤ◌ s s) (doubles c d) = rounded q h (grid ◌*ℤ◌ s s) (doubles c d) in
-    let m : ℤ = r.turns in
-    record {
-      turns = k -ℤ m;
-      e = t -ℤ (k -ℤ m) *ℤ pos q -ℤ bits;
-      rounding = r.off;
-      sum = by_ring (t ∷ k ∷ m ∷ pos q ∷ bits ∷ []) (search quote depth 100 fits 100000) tt;
-      parts = from_eq (pos 1)
-          (inner_tensor q s c d same r ∙ ap (λ z. z +ℤ r.off -ℤ pos q *ℤ (pos q *ℤ m)) (product w1 w2 even))
-          (by_ring (t ∷ k ∷ m ∷ pos q ∷ bits ∷ r.off ∷ cross ∷ []) (search quote depth 100 fits 100000) tt);
-      small = omega (arith, rw sizes_grid at r.small, mul-le-mul_right q (mul-le-mul key key));
-    }
 
 -- ---- its size
 

@@ -1,1 +1,2 @@
-// The noise facts: theorems alone, in specs/.
+// The noise facts: theorems alone, in specs/ and proofs/.
+#![tactic(auto)]

@@ -175,9 +175,6 @@ unfolding first_of place_of
 answer_rest [] rest clear = refl
 answer_rest (r ∷ front) rest clear = rw (none_true r.tests clear.0) (answer_rest front rest clear.1)
 
-pub first_front : (front rest : List Row) → first_of front ≢ 0 → first_of (front ++ rest) ≡ first_of front
-first_front front rest h = ap (λ (a : Refusal). a.number) (answer_front front rest h)
-
 pub first_rest : (front rest : List Row) → Clear front → first_of (front ++ rest) ≡ first_of rest
 first_rest front rest clear = ap (λ (a : Refusal). a.number) (answer_rest front rest clear)
 

@@ -4,12 +4,11 @@ use Rattle.std.proofs.Common.{ap, ◌∙◌, arith}
 use Rattle.std.proofs.Math.ListN.{get_or-map}
 use borrow.Author.Tests.{ltb-true, leb-true, eqb-true, lt-ltb, le-ltb, le-leb, eq-eqb}
 use Rattle.whole.specs.Tests.{and_left, and_right, and_both}
-use Rattle.whole.specs.Lists.{every, every_get_or}
+use Rattle.whole.specs.Lists.{every}
 use Rattle.refusal.specs.declared.Params.{Params}
 use Rattle.refusal.specs.declared.Made.{Made}
 use Rattle.refusal.specs.declared.Made.TheVariants.{Set, Refused}
 use Rattle.refusal.specs.First.{Row, row, refused, first_of, first_last, done_or}
-use Rattle.refusal.specs.Order.{position_in, order, position, in_order, Foremost, first_foremost}
 
 abbrev pub params : ℕ → ℕ → ℕ → ℕ → ℕ → Params
 params n q l e f = record { n = n; q = q; l = l; e = e; f = f }
@@ -54,10 +53,6 @@ sheet k = get_or sheets k no_params
 pub sheets_in_range : every in_range sheets ≡ true
 unfolding every in_range sheets sheet_table
 sheets_in_range = refl
-
-pub sheet_in_range : (k : ℕ) → k < length sheets → in_range (sheet k) ≡ true
-unfolding sheet
-sheet_in_range k h = every_get_or in_range sheets k no_params sheets_in_range h
 
 -- ---- the maker, and the sheet of a number
 
@@ -125,15 +120,6 @@ made_values p e = values (make_number p) p e
 pub sheet_values : (k : ℕ) {r : Made} → r ≡ made_sheet k → Values (sheet_number k) (sheet k) r
 unfolding made_sheet
 sheet_values k e = values (sheet_number k) (sheet k) e
-
--- the number is the first of the order that applies, and 0 exactly when none does
-pub make_foremost : (p : Params) → Foremost (make_rows p) (made_number (made p))
-unfolding made make_rows position_in order position in_order
-make_foremost p = rw answered_number (first_foremost 0 (make_rows p) refl)
-
-pub sheet_foremost : (k : ℕ) → Foremost (sheet_rows k) (made_number (made_sheet k))
-unfolding made_sheet sheet_rows position_in order position in_order
-sheet_foremost k = rw answered_number (first_foremost 0 (sheet_rows k) refl)
 
 -- the maker's two answers, and the sheet's
 pub made_set : (p : Params) → in_range p ≡ true → made p ≡ Set p

@@ -1,10 +1,12 @@
 // What every public call answers with, and the parameter set that every public call is lent.
+#![tactic(auto)]
+
 ghost use Rattle.std.specs.Prelude.{◌≡◌, cond, ◌≤◌, ◌<◌};
 ghost use Rattle.refusal.specs.First.{done_or};
 ghost use Rattle.refusal.specs.Parameters.{params, no_params, within, in_range, sheet, make_number, sheet_number, made_number, made_place, made_params, made, made_sheet};
 
 // A refusal number with its place. Number 0 is done, and the place is 0 except for a gate of a circuit.
-#[derive(Drop)]
+#[derive(Clone, Copy)]
 pub struct Refusal {
     pub number: u32,
     pub place: u64,
@@ -22,7 +24,7 @@ pub fn row(number: u32, applies: bool, later: u32) -> u32
 
 // A parameter set: the entries n of a ciphertext, the modulus q, and the limits L on the key, E on a fresh error and F on a
 // switching error. Anyone can make one out of any numbers, so every call tests it again.
-#[derive(Drop)]
+#[derive(Clone, Copy)]
 pub struct Params {
     pub n: u32,
     pub q: u32,
@@ -32,7 +34,7 @@ pub struct Params {
 }
 
 // What the maker of parameter sets answers.
-#[derive(Drop)]
+#[derive(Clone, Copy)]
 pub enum Made {
     Set(Params),
     Refused(Refusal),
@@ -84,9 +86,9 @@ impl Params {
     // The set of these numbers, or refusal 1 where one of them is outside its range.
     pub fn make(n: u32, q: u32, l: u32, e: u32, f: u32) -> Made
         ensures value { result ≡ made (params n q l e f) }
-        ensures result_value { made_number result ≡ make_number (params n q l e f) }
-        ensures result_value_2 { made_place result ≡ 0 }
-        ensures result_value_3 { made_params result ≡ done_or (make_number (params n q l e f)) (params n q l e f) no_params }
+        ensures number { made_number result ≡ make_number (params n q l e f) }
+        ensures place { made_place result ≡ 0 }
+        ensures params { made_params result ≡ done_or (make_number (params n q l e f)) (params n q l e f) no_params }
     {
         let p = Params { n, q, l, e, f };
         if p.in_range() {
@@ -101,9 +103,9 @@ impl Params {
     // House sheet k, or refusal 1 where there is none.
     pub fn sheet(k: u32) -> Made
         ensures value { result ≡ made_sheet k }
-        ensures result_value { made_number result ≡ sheet_number k }
-        ensures result_value_2 { made_place result ≡ 0 }
-        ensures result_value_3 { made_params result ≡ done_or (sheet_number k) (sheet k) no_params }
+        ensures number { made_number result ≡ sheet_number k }
+        ensures place { made_place result ≡ 0 }
+        ensures params { made_params result ≡ done_or (sheet_number k) (sheet k) no_params }
     {
         if 6 <= k {
             return Made::Refused(Refusal {

@@ -1,9 +1,10 @@
 -- Document 01, *Refusal numbers*, of each call on keys and ciphertexts: the number that it answers is the first of the order that applies, and 0 exactly when
 -- none does, since its rows stand in the order; and the place is 0, since each row has one test. Of the parameter maker and of sheet k this is in
--- `refusal/specs/Parameters.antt`; the bench key's calls have the rows of the switching key maker.
+-- `refusal/proofs/Parameters.antt`; the bench key's calls have the rows of the switching key maker.
 use Rattle.std.specs.Prelude.{◌≡◌, refl}
 use Rattle.refusal.specs.First.{place_of, are_single, place_single}
-use Rattle.refusal.specs.Order.{position_in, order, position, in_order, Foremost, first_foremost}
+use Rattle.refusal.specs.Order.{position_in, order, position, in_order, Foremost}
+use Rattle.refusal.proofs.Order.{first_foremost}
 use Rattle.scheme.specs.Calls.{KeyCheckLoans, key_check_rows, key_check_answer, MakeKeyLoans, make_key_rows, make_key_answer, EncryptLoans, encrypt_rows, encrypt_answer, DecryptLoans, decrypt_rows, decrypt_answer, XorLoans, xor_rows, xor_answer, NotLoans, not_rows, not_answer, AndLoans, and_rows, and_answer}
 
 pub key_check_foremost : (a : KeyCheckLoans) → Foremost (key_check_rows a) (key_check_answer a).number

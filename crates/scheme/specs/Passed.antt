@@ -3,7 +3,7 @@ use Rattle.std.specs.Prelude.{◌≡◌, refl, Bool, true, false, not, List, ℕ
 use Rattle.std.proofs.Common.{sym, ap, ◌∙◌, ltb-true, lt-ltb, le-ltb, leb-true, eqb-true, eq-eqb, ltb-false}
 use Rattle.std.proofs.lemmas.Bool.{not-false, not-true}
 use Rattle.whole.specs.Tests.{and_left, and_right, eq_z, eq_z_true}
-use Rattle.whole.specs.Lists.{every, Each, every-each}
+use Rattle.whole.specs.Lists.{every, Each, every_each}
 use Rattle.whole.specs.Inner.{sizes}
 use Rattle.refusal.specs.declared.Params.{Params}
 use Rattle.refusal.specs.Parameters.{in_range, InRange, in_range_lem}
@@ -44,7 +44,7 @@ entries_inside m xs e = not-false (every (is_residue m) xs) e
 
 pub errors_within : (limit : ℕ) (es : List ℤ) → exceeds limit es ≡ false → Each (λ e. nat_abs e ≤ limit) es
 unfolding exceeds
-errors_within limit es e = every-each (λ x. leb (nat_abs x) limit) es (λ x t. leb-true (nat_abs x) limit t) (not-false _ e)
+errors_within limit es e = every_each (λ x. leb (nat_abs x) limit) es (λ x t. leb-true (nat_abs x) limit t) (not-false _ e)
 
 pub bound_fits : (q B : ℕ) → over_budget q B ≡ false → 4 * B < q
 unfolding over_budget fits

@@ -9,7 +9,8 @@ use Rattle.std.proofs.lemmas.List.{length-map}
 use Rattle.std.proofs.Math.Arith.{digits_lt, digits_div, digits_mod}
 use Rattle.whole.specs.Tests.{and_left, and_right, and_both, le_z_true, lt_z_true, le_le_z, lt_lt_z}
 use Rattle.whole.specs.Split.{zarith, mul_is, up_neg, dn_neg, size_is, apart}
-use Rattle.whole.specs.Centred.{Centred, centred, centred_is, centred_id}
+use Rattle.whole.specs.Centred.{Centred, centred, centred_is}
+use Rattle.whole.proofs.Centred.{centred_id}
 use Rattle.whole.specs.Round.{round}
 use Rattle.whole.specs.Lists.{every, every_map, each_every, each_map, each_always, length_zip_with, map_zip_with, grid, map_grid, length_grid, get_or_grid, get_or_map, cut, length_cut, get_or_cut_entry, tabulate, length_tabulate, get_or_tabulate}
 use Rattle.whole.specs.Inner.{inner, column}

@@ -1,7 +1,8 @@
 // What the calls on keys and ciphertexts answer. A refusal has its number, and 0 everywhere else.
+#![tactic(auto)]
 
 // The answer of encryption, XOR, NOT and AND: the bound of the ciphertext that was written.
-#[derive(Drop)]
+#[derive(Clone, Copy)]
 pub struct Bounded {
     pub number: u32,
     pub place: u64,
@@ -9,7 +10,7 @@ pub struct Bounded {
 }
 
 // The answer of decryption: the bit.
-#[derive(Drop)]
+#[derive(Clone, Copy)]
 pub struct Decrypted {
     pub number: u32,
     pub place: u64,

@@ -11,9 +11,11 @@ use Rattle.circuit.specs.declared.Gate.{Gate}
 use Rattle.circuit.specs.Circuits.{gate_bound, bounds_of, wrong_gates, over_gates, gate_rows}
 use Rattle.circuit.specs.Plan.{PlanLoans, stated}
 use Rattle.circuit.specs.Evaluate.{EvaluateLoans, evaluate_rows}
-use Rattle.circuit.specs.Passed.{EvaluateDone, evaluate_done}
-use Rattle.circuit.specs.Run.{run_gate}
-use Rattle.circuit.specs.Records.{Below, get_or_wrong_gates, get_or_over_gates, gate_below}
+use Rattle.circuit.specs.Passed.{EvaluateDone}
+use Rattle.circuit.proofs.Passed.{evaluate_done}
+use Rattle.circuit.proofs.Run.{run_gate}
+use Rattle.circuit.specs.Records.{Below, get_or_wrong_gates, gate_below}
+use Rattle.circuit.proofs.Records.{get_or_over_gates}
 
 -- the rows of evaluation, as facts
 pub record Accepted (p : Params) (inputs : ℕ) (gates : List Gate) (wires : List ℤ) (Bs : List ℕ) : Type 0 where

@@ -6,10 +6,10 @@ use Rattle.refusal.specs.Parameters.{InRange}
 use Rattle.scheme.specs.Arithmetic.{XOR, XOR_bound, AND, AND_bound, NOT, NOT_bound}
 use Rattle.scheme.specs.Passed.{params_in_range, length_is, key_begins, key_within}
 use Rattle.scheme.specs.Wording.{length_XOR, xor_residues, length_NOT, not_residues, length_AND, and_residues}
-use Rattle.noise.specs.Gates.{xor_noise, not_noise}
+use Rattle.noise.proofs.Gates.{xor_noise, not_noise}
 use Rattle.noise.specs.Sound.{KeyFits, Sound}
 use Rattle.noise.specs.Built.{BuiltFor}
-use Rattle.noise.specs.And.{and_noise}
+use Rattle.noise.proofs.And.{and_noise}
 use Rattle.circuit.specs.declared.Gate.{Gate}
 use Rattle.circuit.specs.Circuits.{by_kind, gate_bit, gate_bound, gate_wire}
 use Rattle.circuit.specs.Records.{Below}

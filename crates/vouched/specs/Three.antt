@@ -6,7 +6,7 @@ use Rattle.std.proofs.Math.Nat.{le_step}
 use Rattle.std.proofs.Math.Decide.{dec_lt}
 use Rattle.circuit.specs.declared.Gate.{Gate}
 use Rattle.circuit.specs.Circuits.{run}
-use Rattle.circuit.specs.Run.{run_inputs, run_gate}
+use Rattle.circuit.proofs.Run.{run_inputs, run_gate}
 
 -- R holds of the three entries of each of the first n wires
 abbrev pub Alike : {A B C : Type 0} → (A → B → C → Type 0) → A → B → C → ℕ → List A → List B → List C → Type 0

@@ -1,1 +1,2 @@
-// What the engine vouches for: theorems alone, in specs/.
+// What the engine vouches for: theorems alone, stated in specs/ and proved in specs/ and proofs/.
+#![tactic(auto)]

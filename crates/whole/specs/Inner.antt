@@ -10,8 +10,7 @@ use Rattle.std.proofs.Math.Seq.{take-nil}
 use Rattle.std.proofs.Math.IntN.{◌+ℤ◌, +ℤ_idl, +ℤ_assoc, +ℤ_comm, zero-*ℤ, *ℤ-zero, *ℤ_comm}
 use Rattle.whole.specs.Size.{size_add, size_mul}
 use Rattle.whole.specs.Laws.{sum_sort, *ℤ_distl, *ℤ_distr, *ℤ_assoc, *ℤ_left_comm}
-use Rattle.whole.specs.Centred.{centred, Congruent, congruent_same, centred_congruent, congruent_step}
-use Rattle.whole.specs.Lists.{tabulate, map_tabulate, Each, nil, cons, zip_with_zip, zip_with_first, zipWith-second, grid, get_or_map, each_get_or, get_or_each, each_take, cut, length_cut, row_ends, get_or_cut_entry}
+use Rattle.whole.specs.Lists.{tabulate, map_tabulate, Each, nil, cons, zip_with_zip, zip_with_first, zip_with_second, grid, get_or_map, each_get_or, get_or_each, each_take, cut, length_cut, row_ends, get_or_cut_entry}
 use Rattle.whole.specs.Ring.{by_ring, quote}
 
 -- <s,c> = s₀·c₀ + s₁·c₁ + ..
@@ -80,13 +79,6 @@ unfolding inner
 inner_cons [] c y = sym (ap (λ z. z +ℤ pos 0) (zero-*ℤ y))
 inner_cons (x ∷ s) c y = refl
 
--- a list reduced entry by entry has the same inner product but for a multiple of q
-pub inner_centred : (q : ℕ) (s c : List ℤ) → 0 < q → Congruent q (inner s c) (inner s (map (centred q) c))
-unfolding inner
-inner_centred q [] c h = congruent_same q (pos 0)
-inner_centred q (x ∷ s) [] h = congruent_same q (pos 0)
-inner_centred q (x ∷ s) (y ∷ c) h = congruent_step x (centred_congruent q y h) (inner_centred q s c h)
-
 -- all entries
 pub inner_every : (s c : List ℤ) (i : ℕ) → length s ≤ i → length c ≤ i → inner (take i s) (take i c) ≡ inner s c
 inner_every s c i h g = rw (take_all i s, take_all i c)
@@ -152,13 +144,13 @@ module _ {ℓ} {A : Type ℓ} where
       ap (λ z. x *ℤ (f p -ℤ g p) +ℤ z) (inner_map_sub f g s ps) ∙ sub_step x (f p) (g p) (inner s (map f ps)) (inner s (map g ps))
 
 -- of two lists taken entry by entry: a sum
-pub inner-zipWith-add {ℓ κ} : {A : Type ℓ} {B : Type κ} (f g : A → B → ℤ) (s : List ℤ) (c : List A) (d : List B)
+pub inner_zip_with_add {ℓ κ} : {A : Type ℓ} {B : Type κ} (f g : A → B → ℤ) (s : List ℤ) (c : List A) (d : List B)
     → inner s (zip_with (λ x y. f x y +ℤ g x y) c d) ≡ inner s (zip_with f c d) +ℤ inner s (zip_with g c d)
-inner-zipWith-add f g s c d = simp zip_with_zip (inner_map_add (λ p. f p.0 p.1) (λ p. g p.0 p.1) s (zip c d))
+inner_zip_with_add f g s c d = simp zip_with_zip (inner_map_add (λ p. f p.0 p.1) (λ p. g p.0 p.1) s (zip c d))
 
 -- <s, c + d> = <s,c> + <s,d>
 pub inner_zip_add : (s c d : List ℤ) → length c ≡ length d → inner s (zip_with ◌+ℤ◌ c d) ≡ inner s c +ℤ inner s d
-inner_zip_add s c d e = inner-zipWith-add (λ x y. x) (λ x y. y) s c d ∙ rw (zip_with_first c d, zipWith-second c d)
+inner_zip_add s c d e = inner_zip_with_add (λ x y. x) (λ x y. y) s c d ∙ rw (zip_with_first c d, zip_with_second c d)
 
 -- ---- all products of two lists
 
@@ -286,13 +278,13 @@ each_column_cut {P} n k {xs} j h g e =
     rw (get_or_column_cut n k xs i j b g) (each_get_or e (i * n + j) (pos 0) (omega (arith, row_ends n k i b))))
 
 -- a sum of sums is the same in either order
-pub inner-swap {ℓ κ} : {A : Type ℓ} {B : Type κ} (f : A → B → ℤ) (s t : List ℤ) (ps : List A) (qs : List B)
+pub inner_swap {ℓ κ} : {A : Type ℓ} {B : Type κ} (f : A → B → ℤ) (s t : List ℤ) (ps : List A) (qs : List B)
     → inner s (map (λ p. inner t (map (f p) qs)) ps) ≡ inner t (map (λ q. inner s (map (λ p. f p q) ps)) qs)
 unfolding inner
-inner-swap f [] t ps qs = sym (inner_map_zero t qs)
-inner-swap f (x ∷ s) t [] qs = sym (inner_map_zero t qs)
-inner-swap f (x ∷ s) t (p ∷ ps) qs =
-    ap₂ ◌+ℤ◌ (sym (inner_map_scale x (f p) t qs)) (inner-swap f s t ps qs)
+inner_swap f [] t ps qs = sym (inner_map_zero t qs)
+inner_swap f (x ∷ s) t [] qs = sym (inner_map_zero t qs)
+inner_swap f (x ∷ s) t (p ∷ ps) qs =
+    ap₂ ◌+ℤ◌ (sym (inner_map_scale x (f p) t qs)) (inner_swap f s t ps qs)
     ∙ sym (inner_map_add (λ q. x *ℤ f p q) (λ q. inner s (map (λ p. f p q) ps)) t qs)
 
 -- <t,c> reads n entries of c, and 0 for those that it has not, where t has no more
@@ -307,4 +299,4 @@ inner_tabulate (suc n) (x ∷ t) (y ∷ c) h = ap (λ z. x *ℤ y +ℤ z) (inner
 pub rows_columns : (n : ℕ) (s t : List ℤ) (rows : List (List ℤ)) → length t ≤ n
     → inner s (map (inner t) rows) ≡ inner t (tabulate n (λ j. inner s (column j rows)))
 unfolding column
-rows_columns n s t rows h = simp (map_tabulate, inner_tabulate) at (inner-swap (λ row j. get_or row j (pos 0)) s t rows (tabulate n (λ j. j)))
+rows_columns n s t rows h = simp (map_tabulate, inner_tabulate) at (inner_swap (λ row j. get_or row j (pos 0)) s t rows (tabulate n (λ j. j)))

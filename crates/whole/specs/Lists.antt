@@ -96,7 +96,7 @@ module _ {ℓ κ} {A : Type ℓ} where
   -- and the other way round
   pub get_or_each : {P : A → Type κ} {xs : List A} (d : A) → ((i : ℕ) → i < length xs → P (get_or xs i d)) → Each P xs
   get_or_each {xs = []} d h = nil
-  get_or_each {xs = x ∷ xs} d h = cons (h zero (zero-lt-suc (length xs))) (get_or_each d (λ i l. h (suc i) (suc-le-suc l)))
+  get_or_each {xs = x ∷ xs} d h = cons (h zero (zero-lt-suc (length xs))) (get_or_each {xs = xs} d (λ i l. h (suc i) (suc-le-suc l)))
 
   -- what holds of everything holds of every entry
   pub each_always : {P : A → Type κ} → ((x : A) → P x) → (xs : List A) → Each P xs
@@ -118,12 +118,12 @@ module _ {ℓ κ} {A : Type ℓ} where
   pub each_take : {P : A → Type κ} {xs : List A} (n : ℕ) → Each P xs → Each P (take n xs)
   each_take zero e = nil
   each_take (suc n) nil = nil
-  each_take (suc n) (cons p e) = cons p (each_take n e)
+  each_take {P = P} (suc n) (cons {x = x} {xs = xs} p e) = cons p (each_take {xs = xs} n e)
 
   pub each_drop : {P : A → Type κ} {xs : List A} (n : ℕ) → Each P xs → Each P (drop n xs)
   each_drop zero e = e
   each_drop (suc n) nil = nil
-  each_drop (suc n) (cons p e) = each_drop n e
+  each_drop {P = P} (suc n) (cons {x = x} {xs = xs} p e) = each_drop {xs = xs} n e
 
   -- and of those from i up to e
   pub each_part : {P : A → Type κ} {xs : List A} (i e : ℕ) → Each P xs → Each P (take (e - i) (drop i xs))
@@ -170,10 +170,10 @@ module _ {ℓ} {A : Type ℓ} where
       split i xs e = (and-eq-true_iff (every p (take i xs)) (every p (drop i xs))).0 (sym (every_append p (take i xs) (drop i xs)) ∙ ap (every p) (take-append-drop i xs) ∙ e)
 
   -- what each entry that passes satisfies, every entry of a list that passes satisfies
-  pub every-each {κ} : {P : A → Type κ} (p : A → Bool) (xs : List A) → ((x : A) → p x ≡ true → P x) → every p xs ≡ true → Each P xs
+  pub every_each {κ} : {P : A → Type κ} (p : A → Bool) (xs : List A) → ((x : A) → p x ≡ true → P x) → every p xs ≡ true → Each P xs
   unfolding every
-  every-each p [] f e = nil
-  every-each p (x ∷ xs) f e = cons (f x ((and-eq-true_iff (p x) (every p xs)).0 e).0) (every-each p xs f ((and-eq-true_iff (p x) (every p xs)).0 e).1)
+  every_each p [] f e = nil
+  every_each p (x ∷ xs) f e = cons (f x ((and-eq-true_iff (p x) (every p xs)).0 e).0) (every_each p xs f ((and-eq-true_iff (p x) (every p xs)).0 e).1)
 
   -- a list whose every entry passes does
   pub each_every : {p : A → Bool} {xs : List A} → Each (λ x. p x ≡ true) xs → every p xs ≡ true
@@ -292,19 +292,19 @@ module _ {ℓ} {A : Type ℓ} where
       }
 
 -- n entries from i on are those of the first m, where they lie among them
-pub part-take {ℓ} : {A : Type ℓ} (i n m : ℕ) (xs : List A) → i + n ≤ m → take n (drop i (take m xs)) ≡ take n (drop i xs)
-part-take zero n m xs h = take-take n m xs (omega arith)
-part-take (suc i) n zero xs h = absurd (omega arith)
-part-take (suc i) n (suc m) [] h = refl
-part-take (suc i) n (suc m) (x ∷ xs) h = part-take i n m xs (omega arith)
+pub part_take {ℓ} : {A : Type ℓ} (i n m : ℕ) (xs : List A) → i + n ≤ m → take n (drop i (take m xs)) ≡ take n (drop i xs)
+part_take zero n m xs h = take-take n m xs (omega arith)
+part_take (suc i) n zero xs h = absurd (omega arith)
+part_take (suc i) n (suc m) [] h = refl
+part_take (suc i) n (suc m) (x ∷ xs) h = part_take i n m xs (omega arith)
 
 -- so they pass where the first m do
-pub all-part-take {ℓ} : {A : Type ℓ} (p : A → Bool) (i n m : ℕ) (xs : List A) → i + n ≤ m → every p (take m xs) ≡ true → every p (take n (drop i xs)) ≡ true
-all-part-take p i n m xs h e = rw (part-take i n m xs h) at (every_part p i n (take m xs) e)
+pub all_part_take {ℓ} : {A : Type ℓ} (p : A → Bool) (i n m : ℕ) (xs : List A) → i + n ≤ m → every p (take m xs) ≡ true → every p (take n (drop i xs)) ≡ true
+all_part_take p i n m xs h e = rw (part_take i n m xs h) at (every_part p i n (take m xs) e)
 
 -- all from i on put in as one part
-pub put-to-end {ℓ} : {A : Type ℓ} (i : ℕ) (xs ys : List A) → take i xs ++ (ys ++ drop (length xs - i) (drop i xs)) ≡ take i xs ++ ys
-put-to-end i xs ys =
+pub put_to_end {ℓ} : {A : Type ℓ} (i : ℕ) (xs ys : List A) → take i xs ++ (ys ++ drop (length xs - i) (drop i xs)) ≡ take i xs ++ ys
+put_to_end i xs ys =
     let every : length (drop i xs) ≤ length xs - i = simp length-drop (omega arith) in
     rw (drop_of_length-le (drop i xs), append-nil)
 
@@ -358,8 +358,8 @@ module _ {ℓ κ} {A : Type ℓ} {B : Type κ} where
   zip_with_first (x ∷ xs) (y ∷ ys) e = ap (λ (r : List A). x ∷ r) (zip_with_first xs ys (suc_inj e))
 
 -- to keep the second of each pair gives back the second list
-pub zipWith-second {ℓ κ} : {A : Type ℓ} {B : Type κ} (xs : List A) (ys : List B) → length xs ≡ length ys → zip_with (λ x y. y) xs ys ≡ ys
-zipWith-second xs ys e = zip_with_flip (λ x y. y) xs ys ∙ zip_with_first ys xs (sym e)
+pub zip_with_second {ℓ κ} : {A : Type ℓ} {B : Type κ} (xs : List A) (ys : List B) → length xs ≡ length ys → zip_with (λ x y. y) xs ys ≡ ys
+zip_with_second xs ys e = zip_with_flip (λ x y. y) xs ys ∙ zip_with_first ys xs (sym e)
 
 module _ {ℓ κ μ ν} {A : Type ℓ} {B : Type κ} {C : Type μ} {D : Type ν} where
   -- g of every entry
@@ -469,7 +469,7 @@ module _ {ℓ} {A : Type ℓ} where
   cut_from n zero i m xs h = refl
   cut_from n (suc k) i m xs h =
       let g : i + (k * n + n) ≤ m = rw suc-mul at h in
-      ap₂ {C = List (List A)} ◌∷◌ (part-take i n m xs (omega arith))
+      ap₂ {C = List (List A)} ◌∷◌ (part_take i n m xs (omega arith))
       (ap (cut n k) (drop-drop n i (take m xs)) ∙ cut_from n k (i + n) m xs (omega arith) ∙ ap (cut n k) (sym (drop-drop n i xs)))
 
   -- lists with the same first k·n entries have the same rows

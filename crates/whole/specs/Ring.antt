@@ -3,7 +3,7 @@
 -- List the integers that an identity speaks of, its atoms, in any order:
 --
 --     square : (a b : ℤ) → (a -ℤ b) *ℤ (a -ℤ b) ≡ a *ℤ a -ℤ pos 2 *ℤ a *ℤ b +ℤ b *ℤ b
---     square a b = by-ring (a ∷ b ∷ []) (search quote depth 100 fits 100000) tt
+--     square a b = by_ring (a ∷ b ∷ []) (search quote depth 100 fits 100000) tt
 --
 -- `search` reads the two sides as polynomials in the atoms, and `tt` is checked by computing the normal form of their difference, which has to be 0.
 -- Where it is not 0, the refusal shows how it begins, `Left (var ..)` (see `Nf`). No `unfolding` line is needed: import `by_ring`, `quote`, `◌∷◌` and `[]`.

@@ -1,12 +1,9 @@
 -- Rounding a quotient to a whole number. A half goes up: round(x) is the greatest whole number not above x + 1/2.
-use Rattle.std.specs.Prelude.{◌≡◌, ℕ, ◌+◌, ◌*◌, ◌≤◌, ◌<◌, ℤ, pos, ◌+ℤ◌, ◌-ℤ◌, ◌*ℤ◌, nat_abs, ◌≤ℤ◌}
-use Rattle.std.proofs.Math.Nat.{le_of_mul-le-mul_left}
+use Rattle.std.specs.Prelude.{◌≡◌, ℕ, ◌*◌, ◌≤◌, ◌<◌, ℤ, pos, ◌+ℤ◌, ◌-ℤ◌, ◌*ℤ◌, nat_abs, ◌≤ℤ◌}
 use Rattle.std.proofs.Common.{arith}
-use Rattle.std.proofs.Math.IntN.{-ℤ-+ℤ_cancel}
 use Rattle.std.specs.Int.Signed.{shr_z}
 use Rattle.whole.specs.Laws.{*ℤ_distr}
 use Rattle.whole.specs.Split.{zarith, add_is, sub_is, mul_is, size_is, apart}
-use Rattle.whole.specs.Size.{size_add, size_mul}
 use Rattle.whole.specs.Floor.{Floor, floor_is, floor_most, floor_unique}
 
 -- round(a/b): a/b + 1/2 is (2a + b)/(2b), and that is rounded down
@@ -104,13 +101,3 @@ round_turn a k b p =
         add_is ((r +ℤ k) *ℤ pos (2 * b)) (pos (2 * b)),
       );
     })
-
--- a quotient of at most m rounds to at most m
-pub round_size : (a : ℤ) (b m : ℕ) → 0 < b → nat_abs a ≤ b * m → nat_abs (round a b) ≤ m
-round_size a b m p h =
-    let r : ℤ = round a b in
-    let d : ℤ = pos b *ℤ r -ℤ a in
-    let back : nat_abs (pos b *ℤ r) ≤ nat_abs d + nat_abs a = rw (-ℤ-+ℤ_cancel (pos b *ℤ r) a) at (size_add d a) in
-    let scaled : b * (2 * nat_abs r) ≤ b * (2 * m + 1) = omega (arith, round_near a b p, size_mul (pos 2) d, size_mul (pos b) r) in
-    let halved : 2 * nat_abs r ≤ 2 * m + 1 = le_of_mul-le-mul_left scaled p in
-    omega arith

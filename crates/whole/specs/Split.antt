@@ -1,6 +1,6 @@
 -- A whole number read as a difference of two naturals, z = up z − dn z, so that `omega`, which knows the naturals alone,
 -- decides linear facts on ℤ: `omega (zarith, add_is x y, ..)`, with one law listed for each compound term in sight.
-use Rattle.std.specs.Prelude.{◌≡◌, refl, Bool, true, false, cond, ℕ, zero, suc, ◌+◌, ◌*◌, ◌-◌, ◌≤◌, ◌<◌, min, ℤ, pos, negsuc, neg_ℤ, ◌+ℤ◌, ◌-ℤ◌, ◌*ℤ◌, nat_abs, ◌≤ℤ◌, ◌<ℤ◌, leb, ltb}
+use Rattle.std.specs.Prelude.{◌≡◌, refl, Bool, true, false, cond, ℕ, zero, suc, ◌+◌, ◌*◌, ◌-◌, ◌≤◌, ◌<◌, min, ℤ, pos, negsuc, neg_ℤ, ◌+ℤ◌, ◌-ℤ◌, ◌*ℤ◌, nat_abs, ◌≤ℤ◌, ◌<ℤ◌, ltb}
 use Rattle.std.proofs.Common.{ap, subst, arith, leb→le, le→leb, ltb→lt, lt→ltb, ltb-true, ltb-false}
 use Rattle.std.proofs.Math.IntN.{sub_ℕ}
 

@@ -1,1 +1,2 @@
-// The whole numbers: no code, only the laws of specs/, which every crate above cites.
+// The whole numbers: no code, only the laws of specs/ and proofs/, which every crate above cites.
+#![tactic(auto)]

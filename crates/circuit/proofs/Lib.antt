@@ -1,0 +1,6 @@
+pub mod Answers
+pub mod Exact
+pub mod Passed
+pub mod Records
+pub mod Run
+pub mod Unread

@@ -1,0 +1,4 @@
+pub mod First
+pub mod Lowest
+pub mod Order
+pub mod Parameters

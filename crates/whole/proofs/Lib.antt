@@ -1,0 +1,3 @@
+pub mod Centred
+pub mod Inner
+pub mod Round
