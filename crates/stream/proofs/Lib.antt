@@ -1,3 +1,2 @@
 -- Laws that several proofs of the crate cite.
-pub mod Counting
-pub mod Signs
+pub mod Digits

@@ -7,7 +7,7 @@ abbrev pub Within : ℕ → ℕ → List ℕ → Type 0
 Within at end block = (at ≤ end) × (end ≤ length block)
 
 -- putting into a text gives a place within it, and leaves it as long as it was found. What it holds is no equation of what was put: its bytes go out in between,
--- and of those the contract of a write says nothing
+-- and of what the writer then holds nothing is promised
 abbrev pub Placed : ℕ → List ℕ → List ℕ → Type 0
 Placed at found text = (at ≤ length text) × (length text ≡ length found)
 

@@ -1,5 +1,5 @@
 -- Whether a whole number lies in a range, by tests against both ends, and what follows from the answer. Assumes nothing.
-use Rattle.std.specs.Prelude.{◌≡◌, Bool, true, false, ◌&&◌, ℕ, ◌≤◌, T, leb, ℤ, pos, negsuc, nat_abs}
+use Rattle.std.specs.Prelude.{◌≡◌, Bool, true, ◌&&◌, ℕ, ◌≤◌, T, leb, ℤ, pos, negsuc, nat_abs}
 use Rattle.std.proofs.Common.{sym, true≢false, arith, SFits, leb-true}
 use Rattle.std.proofs.Math.Bool.{and-true, and-eq-true_iff}
 use Rattle.std.specs.Int.Signed.{le_z, non_neg}

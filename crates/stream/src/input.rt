@@ -1,9 +1,9 @@
-// Whole numbers from standard input, in decimal, with white space between them. The input passes
-// through a block that the caller lends and is never held whole, so it may be of any length.
+// Whole numbers from a reader, in decimal, with white space between them. The input passes through
+// a block that the caller lends and is never held whole, so it may be of any length.
 ghost use Rattle.std.specs.Prelude.{◌≤◌, false, true, ◌≡◌, neg_ℤ, pos, length};
 ghost use Rattle.stream.specs.Bounds.{Within, CountIn};
 
-use libc::STDIN_FILENO;
+use std::io::Read;
 
 // The most bytes of white space that are passed over before a number. A number has fewer digits
 // than this. A proved loop has to end, and nothing says that the input does.
@@ -14,14 +14,14 @@ const MOST: usize = 65536;
 const ROOM: u64 = 922337203685477580;
 
 // What is left of the block that was read last: its bytes from `at` up to, not including, `end`.
-#[derive(Drop)]
+#[derive(Clone, Copy)]
 pub struct Cursor {
     pub at: usize,
     pub end: usize,
 }
 
 // A number, where one was found, and 0 where not, with what is left of the block after it.
-#[derive(Drop)]
+#[derive(Clone, Copy)]
 pub struct Token {
     pub cursor: Cursor,
     pub value: i64,
@@ -30,7 +30,7 @@ pub struct Token {
 
 // How many numbers stand at the front of the slice that was lent, and whether that is the whole
 // list; where it is not, none.
-#[derive(Drop)]
+#[derive(Clone, Copy)]
 pub struct Taken {
     pub cursor: Cursor,
     pub len: usize,
@@ -39,7 +39,7 @@ pub struct Taken {
 
 // What is left of the block, where the next byte was asked for: nothing is left at the end of the
 // input, and where the read failed.
-#[derive(Drop)]
+#[derive(Clone, Copy)]
 struct Filled {
     at: usize,
     end: usize,
@@ -47,7 +47,7 @@ struct Filled {
 }
 
 // Digits without a sign: their value, and whether they were digits and few enough.
-#[derive(Drop)]
+#[derive(Clone, Copy)]
 struct Unsigned {
     cursor: Cursor,
     size: u64,
@@ -65,34 +65,34 @@ pub fn start() -> Cursor
 // `found` is false at the end of the input, at a read that fails, at a token that is no such number
 // or is outside i64, and where too many bytes of white space or digits come (MOST). The cursor then
 // stands where reading stopped, perhaps within a token, and a caller is to stop there too.
-pub fn number(block: &mut [u8], c: Cursor) -> Token
+pub fn number<R: Read>(input: &mut R, block: &mut [u8], c: Cursor) -> Token
     ensures within { Within result.cursor.at result.cursor.end block.new }
     ensures block_len_unchanged { length block.new ≡ length block.old }
-    ensures value_value { result.found ≡ false → result.value ≡ pos 0 }
+    ensures value_zero { result.found ≡ false → result.value ≡ pos 0 }
 {
-    let s = skip(block, c);
+    let s = skip(input, block, c);
     let at = s.at;
     let end = s.end;
     if at >= end {
         return missing(s);
     }
     if block[at] == b'-' {
-        return negative(digits(block, Cursor { at: at + 1, end }));
+        return negative(digits(input, block, Cursor { at: at + 1, end }));
     }
-    positive(digits(block, s))
+    positive(digits(input, block, s))
 }
 
 // A count, and then that many numbers, which are put at the front of `out`. `whole` is false, and
 // `len` 0, where the count is negative or above out's length, or where a number is missing or bad;
 // the front of `out` may then be changed.
-pub fn list(block: &mut [u8], c: Cursor, out: &mut [i64]) -> Taken
+pub fn list<R: Read>(input: &mut R, block: &mut [u8], c: Cursor, out: &mut [i64]) -> Taken
     ensures count_in { CountIn result.len out.new }
     ensures out_len_unchanged { length out.new ≡ length out.old }
     ensures within { Within result.cursor.at result.cursor.end block.new }
     ensures block_len_unchanged { length block.new ≡ length block.old }
-    ensures len_value { result.whole ≡ false → result.len ≡ 0 }
+    ensures len_zero { result.whole ≡ false → result.len ≡ 0 }
 {
-    let count = number(block, c);
+    let count = number(input, block, c);
     let cursor = count.cursor;
     let value = count.value;
     if !count.found {
@@ -105,20 +105,20 @@ pub fn list(block: &mut [u8], c: Cursor, out: &mut [i64]) -> Taken
     if n > out.len() {
         return none(cursor);
     }
-    numbers(block, cursor, out, n)
+    numbers(input, block, cursor, out, n)
 }
 
 // `n` numbers, put at the front of `out`.
-fn numbers(block: &mut [u8], c: Cursor, out: &mut [i64], n: usize) -> Taken
+fn numbers<R: Read>(input: &mut R, block: &mut [u8], c: Cursor, out: &mut [i64], n: usize) -> Taken
     requires n_in_bounds { n ≤ length out.old }
-    requires within { Within c.at c.end block.old }
+    requires cursor_within { Within c.at c.end block.old }
     ensures count_in { CountIn result.len out.new }
-    ensures within_2 { Within result.cursor.at result.cursor.end block.new }
-    ensures len_value { result.whole ≡ false → result.len ≡ 0 }
+    ensures within { Within result.cursor.at result.cursor.end block.new }
+    ensures len_zero { result.whole ≡ false → result.len ≡ 0 }
 {
     let mut cursor = c;
     for i in 0..n {
-        let t = number(block, cursor);
+        let t = number(input, block, cursor);
         let value = t.value;
         cursor = t.cursor;
         if !t.found {
@@ -135,8 +135,8 @@ fn numbers(block: &mut [u8], c: Cursor, out: &mut [i64], n: usize) -> Taken
 
 // No list.
 fn none(cursor: Cursor) -> Taken
-    ensures at_value { (result.cursor.at ≡ cursor.at) × (result.cursor.end ≡ cursor.end) }
-    ensures len_value { result.len ≡ 0 }
+    ensures cursor_unchanged { (result.cursor.at ≡ cursor.at) × (result.cursor.end ≡ cursor.end) }
+    ensures len_zero { result.len ≡ 0 }
 {
     Taken {
         cursor,
@@ -148,7 +148,7 @@ fn none(cursor: Cursor) -> Taken
 // Has the next byte at hand: `c` itself while it has bytes left, and otherwise the block, read anew
 // from its start. A cursor that reaches past the block is none of ours, and counts as one with
 // nothing left.
-fn refill(block: &mut [u8], c: Cursor) -> Filled
+fn refill<R: Read>(input: &mut R, block: &mut [u8], c: Cursor) -> Filled
     ensures { Within result.at result.end block.new }
 {
     let at = c.at;
@@ -162,20 +162,26 @@ fn refill(block: &mut [u8], c: Cursor) -> Filled
             };
         }
     }
-    let got = libc::read(STDIN_FILENO, block);
-    Filled {
-        at: 0,
-        end: io::count(got, block),
-        failed: got < 0,
+    match input.read(block) {
+        Ok(end) => Filled {
+            at: 0,
+            end,
+            failed: false,
+        },
+        Err(_) => Filled {
+            at: 0,
+            end: 0,
+            failed: true,
+        },
     }
 }
 
 // Passes over white space, of which at most MOST bytes are taken. Nothing is left where the input
 // has ended or a read failed.
-fn skip(block: &mut [u8], c: Cursor) -> Cursor
+fn skip<R: Read>(input: &mut R, block: &mut [u8], c: Cursor) -> Cursor
     ensures { Within result.at result.end block.new }
 {
-    let mut s = refill(block, c);
+    let mut s = refill(input, block, c);
     for _ in 0..MOST {
         let at = s.at;
         let end = s.end;
@@ -185,7 +191,7 @@ fn skip(block: &mut [u8], c: Cursor) -> Cursor
         if !is_white(block[at]) {
             return Cursor { at, end };
         }
-        s = refill(block, Cursor { at: at + 1, end });
+        s = refill(input, block, Cursor { at: at + 1, end });
     }
     Cursor {
         at: s.at,
@@ -196,10 +202,10 @@ fn skip(block: &mut [u8], c: Cursor) -> Cursor
 // Takes digits up to white space or the end of the input. The size stays below 2^64 whatever comes,
 // since a digit is taken only onto a size of at most ROOM. A read that fails among digits is not
 // taken for the end of the input: the digits may go on.
-fn digits(block: &mut [u8], c: Cursor) -> Unsigned
+fn digits<R: Read>(input: &mut R, block: &mut [u8], c: Cursor) -> Unsigned
     ensures { Within result.cursor.at result.cursor.end block.new }
 {
-    let mut s = refill(block, c);
+    let mut s = refill(input, block, c);
     let mut size: u64 = 0;
     for i in 0..MOST {
         let at = s.at;
@@ -219,7 +225,7 @@ fn digits(block: &mut [u8], c: Cursor) -> Unsigned
             return ended(at, end, size, false);
         }
         size = size * 10 + d;
-        s = refill(block, Cursor { at: at + 1, end });
+        s = refill(input, block, Cursor { at: at + 1, end });
     }
     ended(s.at, s.end, size, false)
 }
@@ -237,9 +243,9 @@ fn ended(at: usize, end: usize, size: u64, good: bool) -> Unsigned
 
 // The number that digits without a sign stand for.
 fn positive(d: Unsigned) -> Token
-    ensures at_value { (result.cursor.at ≡ d.cursor.at) × (result.cursor.end ≡ d.cursor.end) }
-    ensures value_value { result.found ≡ true → result.value ≡ pos d.size }
-    ensures value_value_2 { result.found ≡ false → result.value ≡ pos 0 }
+    ensures cursor_unchanged { (result.cursor.at ≡ d.cursor.at) × (result.cursor.end ≡ d.cursor.end) }
+    ensures value { result.found ≡ true → result.value ≡ pos d.size }
+    ensures value_zero { result.found ≡ false → result.value ≡ pos 0 }
 {
     let cursor = d.cursor;
     let size = d.size;
@@ -258,9 +264,9 @@ fn positive(d: Unsigned) -> Token
 // The number that digits after a `-` stand for. The least i64 is one further from 0 than the
 // greatest, so the last step below 0 is taken by itself, and nothing wraps.
 fn negative(d: Unsigned) -> Token
-    ensures at_value { (result.cursor.at ≡ d.cursor.at) × (result.cursor.end ≡ d.cursor.end) }
-    ensures value_value { result.found ≡ true → result.value ≡ neg_ℤ (pos d.size) }
-    ensures value_value_2 { result.found ≡ false → result.value ≡ pos 0 }
+    ensures cursor_unchanged { (result.cursor.at ≡ d.cursor.at) × (result.cursor.end ≡ d.cursor.end) }
+    ensures value { result.found ≡ true → result.value ≡ neg_ℤ (pos d.size) }
+    ensures value_zero { result.found ≡ false → result.value ≡ pos 0 }
 {
     let cursor = d.cursor;
     let size = d.size;
@@ -285,9 +291,9 @@ fn negative(d: Unsigned) -> Token
 
 // No number.
 fn missing(cursor: Cursor) -> Token
-    ensures at_value { (result.cursor.at ≡ cursor.at) × (result.cursor.end ≡ cursor.end) }
-    ensures found_value { result.found ≡ false }
-    ensures value_value { result.value ≡ pos 0 }
+    ensures cursor_unchanged { (result.cursor.at ≡ cursor.at) × (result.cursor.end ≡ cursor.end) }
+    ensures not_found { result.found ≡ false }
+    ensures value_zero { result.value ≡ pos 0 }
 {
     Token {
         cursor,
