@@ -1,9 +1,5 @@
 -- The switching key maker on sheet 1 and a buffer of zeros is what the bench key is defined by; and its four rows of sixteen.
-use mathlib.Core.Path.{◌≡◌, subst}
-use mathlib.Core.List.{List, [], ◌∷◌}
-use lib.IntN.{ℤ, pos}
-use lib.ListN.{take, drop, replicate}
-use lib.Seq.{drop-drop}
+use Rattle.std.proofs.Common.{◌≡◌, subst, List, [], ◌∷◌, ℤ, pos, take, drop, replicate, drop-drop}
 use Rattle.whole.specs.Lists.{cut}
 use Rattle.refusal.specs.declared.Params.{Params}
 use Rattle.refusal.specs.declared.Refusal.{Refusal}

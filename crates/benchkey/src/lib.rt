@@ -1,5 +1,7 @@
 // The bench key of document 01: the switching key of sheet 1 as four rows of sixteen, by value, and its check call. Both are the switching key maker on a buffer of
 // zeros, so that they refuse what it refuses, and a refusal leaves the zeros.
+#![tactic(auto)]
+
 ghost use Rattle.std.specs.Prelude.{◌≡◌, ◌+◌, ◌≤◌, length, take, drop};
 ghost use Rattle.refusal.specs.Parameters.{sheet};
 ghost use Rattle.scheme.specs.Calls.{BenchCheckPromise, BenchKeyPromise};
@@ -9,6 +11,7 @@ use refusal::{Params, Refusal};
 use switchingkey::make_switching_key;
 
 // Sheet 1.
+#[tactic(auto, unfolding(refusal::specs::Parameters::sheet, refusal::specs::Parameters::sheets, refusal::specs::Parameters::sheet_table))]
 fn bench_sheet() -> Params
     ensures { result ≡ sheet 1 }
 {

@@ -1,4 +1,6 @@
 // The bound of AND: document 01's *AND*. It is worked out by numbers alone, so that planning needs nothing of the arithmetic on entries.
+#![tactic(auto)]
+
 ghost use Rattle.std.specs.Prelude.{◌≡◌, ◌≤◌};
 ghost use Rattle.scheme.specs.Arithmetic.{AND_bound};
 ghost use Rattle.bound.specs.Ready.{AndBoundReady};

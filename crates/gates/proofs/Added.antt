@@ -1,12 +1,6 @@
 -- The sum of two numbers of at most q/2 in size, which XOR and NOT reduce. Each is read from a word: they and the sum fit one, and
 -- `Residue::near` takes the sum. Assumes nothing.
-use mathlib.Core.Path.{◌≡◌}
-use Prim.Native.Nat.{ℕ, ◌/◌, ◌≤◌}
-use native.Mathlib.Omega.{arith}
-use lib.IntN.{ℤ, ◌+ℤ◌, nat_abs}
-use mir.Syntax.{w64}
-use mir.Val.{SFits, to_z, of_z}
-use mir.Facts.{to_z-of_z}
+use Rattle.std.proofs.Common.{◌≡◌, ℕ, ◌/◌, ◌≤◌, arith, ℤ, ◌+ℤ◌, nat_abs, w64, SFits, to_z, of_z, to_z-of_z}
 use Rattle.whole.specs.Size.{size_add}
 use Rattle.whole.specs.Machine.{fits64}
 use Rattle.scheme.specs.Loans.{Modulus, Near, size_near}

@@ -1,10 +1,6 @@
 -- How XOR, NOT and AND end: refused, where the number n that was worked out is not 0, with all as found; and done, where it is 0, with the bound and what was written.
-use mathlib.Core.Path.{◌≡◌}
+use Rattle.std.proofs.Common.{◌≡◌, List, ℕ, ◌*◌, ℤ, pos, replicate}
 use mathlib.Core.Logic.{◌≢◌}
-use mathlib.Core.List.{List}
-use Prim.Native.Nat.{ℕ, ◌*◌}
-use lib.IntN.{ℤ, pos}
-use lib.ListN.{replicate}
 use Rattle.refusal.specs.First.{first_of}
 use Rattle.scheme.specs.Arithmetic.{XOR, XOR_bound, NOT, NOT_bound, AND}
 use Rattle.scheme.specs.Calls.{states, XorLoans, xor_rows, xor_answer, xor_result, XorPromise, NotLoans, not_rows, not_answer, not_result, NotPromise, AndLoans, and_bound, and_rows, and_answer, and_result, and_scratch, AndPromise}

@@ -1,11 +1,9 @@
 -- What follows for the loans of XOR, NOT and AND when the number is 0: every test is false, so the functions that do the work may be called.
-use mathlib.Core.Path.{◌≡◌, refl, sym, ◌∙◌}
-use Prim.Native.Nat.{◌*◌, ◌<◌}
-use native.Mathlib.Omega.{arith}
-use lib.ListN.{length}
+use Rattle.std.proofs.Common.{◌≡◌, refl, sym, ◌∙◌, ◌*◌, ◌<◌, arith, length}
 use Rattle.whole.specs.Tests.{or_left, or_right}
 use Rattle.refusal.specs.First.{first_of, Clear}
-use Rattle.refusal.specs.Order.{position_in, order, position, in_order, first_clear}
+use Rattle.refusal.specs.Order.{position_in, order, position, in_order}
+use Rattle.refusal.proofs.Order.{first_clear}
 use Rattle.refusal.specs.Parameters.{InRange}
 use Rattle.scheme.specs.Arithmetic.{XOR_bound}
 use Rattle.scheme.specs.Calls.{XorLoans, xor_rows, NotLoans, not_rows, AndLoans, and_bound, and_rows}

@@ -1,5 +1,7 @@
 // XOR, NOT and AND: document 01's *XOR*, *NOT* and *AND*. What each call answers and writes is defined in the crate scheme, and what the functions that it works
 // by ask here. Every call takes arbitrary numbers and buffers and refuses bad ones by number; those functions, which a circuit calls too, stand beside it.
+#![tactic(auto)]
+
 ghost use Rattle.std.specs.Prelude.{◌≡◌, length};
 ghost use Rattle.refusal.specs.First.{first_of};
 ghost use Rattle.scheme.specs.Arithmetic.{XOR, NOT, tensor, AND};

@@ -7,6 +7,7 @@ use passes::key::sum_of_sizes;
 use passes::range::{all_big_residues, all_residues, all_within};
 
 // 3: a length differs from the one required.
+#[tactic(auto, unfolding(scheme::specs::Calls::differs))]
 pub fn length_differs(had: usize, required: usize) -> bool
     ensures { result ≡ differs had required }
 {
@@ -25,6 +26,7 @@ pub fn is_bad_key(l: u32, s: &[i32]) -> bool
 }
 
 // 5: a bit is neither 0 nor 1.
+#[tactic(auto, unfolding(scheme::specs::Calls::bad_bit))]
 pub fn is_bad_bit(bit: u32) -> bool
     ensures { result ≡ bad_bit bit }
 {
@@ -32,6 +34,7 @@ pub fn is_bad_bit(bit: u32) -> bool
 }
 
 // 6: an entry is outside -q/2 to q/2-1.
+#[tactic(auto, unfolding(scheme::specs::Calls::outside))]
 pub fn is_outside(q: u32, xs: &[i64]) -> bool
     requires { Modulus q }
     ensures { result ≡ outside q xs.now }
@@ -40,6 +43,7 @@ pub fn is_outside(q: u32, xs: &[i64]) -> bool
 }
 
 // 6: an entry is outside -Q/2 to Q/2-1.
+#[tactic(auto, unfolding(scheme::specs::Calls::outside))]
 pub fn is_outside_big(q: u32, xs: &[i64]) -> bool
     requires { Modulus q }
     ensures { result ≡ outside (q * q) xs.now }
@@ -48,6 +52,7 @@ pub fn is_outside_big(q: u32, xs: &[i64]) -> bool
 }
 
 // 7: an error exceeds its limit.
+#[tactic(auto, unfolding(scheme::specs::Calls::exceeds))]
 pub fn is_exceeding(limit: u32, errors: &[i64]) -> bool
     ensures { result ≡ exceeds limit errors.now }
 {

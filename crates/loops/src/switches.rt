@@ -7,6 +7,7 @@ use passes::range::{all_big_residues, all_residues};
 use switch::fill_switch;
 
 // Whether t and a switching key are what a switch to n entries asks for.
+#[tactic(auto, using(std::proofs::lemmas::Bool::Decides::nat_tests), unfolding(crate::specs::Lent::switch_lent))]
 fn switch_lent(q: u32, t: &[i64], key: &[i64], n: usize) -> bool
     ensures { result ≡ switch_lent q t.now key.now n }
 {

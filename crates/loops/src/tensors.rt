@@ -7,6 +7,7 @@ use passes::range::all_residues;
 use tensor::fill_tensor;
 
 // Whether c and d are two ciphertexts whose tensor has `entries` entries.
+#[tactic(auto, using(std::proofs::lemmas::Bool::Decides::nat_tests), unfolding(crate::specs::Lent::tensor_lent))]
 fn tensor_lent(q: u32, c: &[i64], d: &[i64], entries: usize) -> bool
     ensures { result ≡ tensor_lent q c.now d.now entries }
 {

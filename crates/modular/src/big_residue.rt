@@ -10,7 +10,7 @@ use crate::wide::Wide;
 
 // A number modulo Q = q², in -Q/2 to Q/2-1. Every entry of row 0 of a made switching key comes out of one, the masks below it being as lent; and so does the
 // sum of a row, before it is rounded.
-#[derive(Drop)]
+#[derive(Clone, Copy)]
 pub struct BigResidue(i64);
 
 impl BigResidue {

@@ -3,6 +3,7 @@ ghost use Rattle.whole.specs.Centred.{centred};
 ghost use Rattle.scheme.specs.Loans.{Near};
 
 // [x]m for an x that is at most one modulus outside the range, which takes no division.
+#[tactic(auto, using(crate::proofs::Turns::turned_up, crate::proofs::Turns::turned_down, crate::proofs::Turns::not_turned))]
 pub fn one_turn(x: i64, m: u64) -> i64
     requires { (0 < m) × (m ≤ 1099511627776) × Near m x }
     ensures { result ≡ centred m x }

@@ -5,7 +5,7 @@ ghost use Rattle.scheme.specs.Loans.{Modulus, Near};
 use crate::centre::{centre, one_turn};
 
 // A number modulo q, in -q/2 to q/2-1. Every entry of a ciphertext that is worked out comes out of one; a mask's, and what NOT copies, is as lent.
-#[derive(Drop)]
+#[derive(Clone, Copy)]
 pub struct Residue(i64);
 
 impl Residue {
@@ -26,6 +26,7 @@ impl Residue {
     }
 
     // [x]q for an x of at most q/2 in size: q/2 alone is outside the range.
+    #[tactic(auto, using(crate::proofs::Halves::at_half, crate::proofs::Halves::below_half))]
     pub fn up_to_half(x: i64, q: u32) -> Residue
         requires { Modulus q × (nat_abs x ≤ q / 2) }
         ensures { result.0 ≡ centred q x }

@@ -1,7 +1,7 @@
 -- The test of `range::all_below` by top bits, bit 63 of a word. Modulo 2^64, x + h has no top bit and x − h has it exactly where x is
 -- a residue of 2·h (`tops`); and the numbers that a pass keeps, the bitwise or of all x + h and the bitwise and of all x − h, say so of every entry
 -- that it passed (`Parted`).
-use Rattle.std.proofs.Common.{◌≡◌, ℕ, zero, suc, ◌+◌, ◌*◌, ◌/◌, ◌%◌, ◌<◌, ◌≤◌, Bool, true, false, ◌&&◌, ltb, leb, List, length, get_or, take, ℤ, pos, negsuc, neg_ℤ, sym, refl, ap, ◌∙◌, ap₂, add-one, arith, take_all, w64, of_z, ltb-false, ltb-true, le-ltb, lt-ltb, le-leb, leb-false, leb-true}
+use Rattle.std.proofs.Common.{◌≡◌, ℕ, zero, suc, ◌+◌, ◌*◌, ◌/◌, ◌%◌, ◌<◌, ◌≤◌, Bool, true, false, ◌&&◌, ltb, leb, List, length, get_or, take, ℤ, pos, negsuc, neg_ℤ, sym, refl, ◌∙◌, ap₂, add-one, arith, take_all, w64, of_z, ltb-false, ltb-true, le-ltb, lt-ltb, le-leb, leb-false, leb-true}
 use mathlib.Core.Bool.{and-true, and-false}
 use lib.Bits.{bit_and, bit_or, or_lt, and_le_l, and_le_r, or_add_and, and_shr}
 use lib.Dec.{leb-zero, leb-suc-zero, leb-suc-suc}
@@ -97,7 +97,7 @@ pub parted_start : (p : ℤ → Bool) (xs : List ℤ) → Parted p xs 0 18446744
 unfolding every
 parted_start p xs = record { within = omega arith; fits = omega arith; so_far = refl }
 
--- the next entry's numbers are lowHigh where it passes
+-- the next entry's numbers are `low_high` where it passes
 pub parted_step : {p : ℤ → Bool} {xs : List ℤ} {some each i : ℕ} → Parted p xs some each i → (y z : ℕ) → z < words → i < length xs
     → low_high y z ≡ p (get_or xs i (pos 0)) → Parted p xs (bit_or some y) (bit_and each z) (i + 1)
 parted_step {p} {xs} {some} {each} {i} f y z l h e =

@@ -1,10 +1,6 @@
 -- How encryption and decryption end: refused, where the number n that was worked out is not 0, with all as found; and done, where it is 0, with the bound or the bit
 -- and what was written.
-use mathlib.Core.Path.{◌≡◌}
-use mathlib.Core.Logic.{◌≢◌}
-use mathlib.Core.List.{List}
-use Prim.Native.Nat.{ℕ}
-use lib.IntN.{ℤ}
+use Rattle.std.proofs.Common.{◌≡◌, ◌≢◌, List, ℕ, ℤ}
 use Rattle.refusal.specs.First.{first_of}
 use Rattle.scheme.specs.Arithmetic.{encrypt, decrypt}
 use Rattle.scheme.specs.Calls.{states, decrypts_to, EncryptLoans, encrypt_rows, encrypt_answer, encrypt_result, EncryptPromise, DecryptLoans, decrypt_rows, decrypt_answer, DecryptPromise}

@@ -1,16 +1,11 @@
 -- What follows for the loans of encryption and of decryption when the number is 0: all that `encrypt_into` and `decrypt_bit` ask.
-use mathlib.Core.Path.{◌≡◌, refl, sym, ◌∙◌}
-use mathlib.Core.Bool.{true}
-use mathlib.Core.List.{[], ◌∷◌}
-use Prim.Native.Nat.{◌-◌, ◌≤◌}
-use native.Mathlib.Omega.{arith}
-use lib.IntN.{pos, nat_abs}
-use lib.ListN.{length}
+use Rattle.std.proofs.Common.{◌≡◌, ◌-◌, ◌≤◌, true, [], ◌∷◌, length, pos, nat_abs, refl, sym, ◌∙◌, arith}
 use Rattle.whole.specs.Tests.{or_left, or_right}
 use Rattle.whole.specs.Lists.{every, each_get_or}
 use Rattle.whole.specs.Inner.{sizes}
 use Rattle.refusal.specs.First.{first_of, Clear}
-use Rattle.refusal.specs.Order.{position_in, order, position, in_order, first_clear}
+use Rattle.refusal.specs.Order.{position_in, order, position, in_order}
+use Rattle.refusal.proofs.Order.{first_clear}
 use Rattle.refusal.specs.Parameters.{InRange}
 use Rattle.scheme.specs.Arithmetic.{is_residue}
 use Rattle.scheme.specs.Calls.{EncryptLoans, encrypt_rows, DecryptLoans, decrypt_rows}

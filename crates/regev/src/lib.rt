@@ -1,5 +1,7 @@
 // Encryption and decryption: document 01's *Encrypt* and *Decrypt*. What each call answers and writes is defined in the crate scheme, and what encryption's
 // worker asks here. Every call takes arbitrary numbers and buffers and refuses bad ones by number; the functions that it works by stand beside it.
+#![tactic(auto)]
+
 ghost use Rattle.std.specs.Prelude.{◌≡◌, true, cond, ◌+◌, ◌*◌, ◌≤◌, ltb, nat_abs, length};
 ghost use Rattle.whole.specs.Lists.{every};
 ghost use Rattle.whole.specs.Inner.{sizes};

@@ -1,15 +1,7 @@
 -- A sum that can pass a word, in two words: the invariant of a loop that adds 16 products after 16 (`Held`), and what one of its turns leaves to be shown
 -- (`Chunk`). Leans on whole's bounds on the size of an inner product. Assumes nothing.
-use mathlib.Core.Path.{◌≡◌, sym, ◌∙◌}
-use mathlib.Core.List.{List, [], ◌∷◌}
-use Prim.Native.Nat.{ℕ, ◌+◌, ◌*◌, ◌-◌, ◌≤◌, ◌<◌}
-use native.Mathlib.Omega.{arith}
-use lib.ListN.{length, take, drop, length-take}
-use lib.IntN.{ℤ, pos, ◌+ℤ◌, ◌*ℤ◌, nat_abs}
-use lib.Signed.{quot_z, rem_z}
-use mir.Syntax.{w64}
-use mir.Val.{SFits}
-use mir.Facts.{to_z-of_z}
+use Rattle.std.proofs.Common.{◌≡◌, sym, ◌∙◌, List, [], ◌∷◌, ℕ, ◌+◌, ◌*◌, ◌-◌, ◌≤◌, ◌<◌, arith, length, take, drop, length-take, ℤ, pos, ◌+ℤ◌, ◌*ℤ◌, nat_abs, w64, SFits, to_z-of_z}
+use Rattle.std.specs.Int.Signed.{quot_z, rem_z}
 use Rattle.whole.specs.Size.{size_add}
 use Rattle.whole.specs.Ring.{by_ring, quote}
 use Rattle.whole.specs.Rem.{quot_rem, rem_size, quot_times_size}

@@ -1,13 +1,10 @@
 -- The switched entry [round(S/q)]q of a sum S depends on S modulo Q = q² alone, and where the entries of a switch lie.
-use mathlib.Core.Path.{◌≡◌, sym, ap, ◌∙◌}
-use mathlib.Core.List.{List, []}
-use Prim.Native.Nat.{ℕ, ◌*◌, ◌<◌}
-use native.Mathlib.Nat.{mul-pos}
-use lib.IntN.{ℤ, pos, ◌+ℤ◌, ◌*ℤ◌}
-use lib.ListN.{length, get_or, take, drop, length-map}
+use Rattle.std.proofs.Common.{◌≡◌, sym, ap, ◌∙◌, List, [], ℕ, ◌*◌, ◌<◌, mul-pos, ℤ, pos, ◌+ℤ◌, ◌*ℤ◌, length, get_or, take, drop}
+use Rattle.std.proofs.Math.ListN.{length-map}
 use Rattle.whole.specs.Laws.{*ℤ_assoc}
 use Rattle.whole.specs.Round.{round, round_turn}
-use Rattle.whole.specs.Centred.{centred, centred_turn, Congruent, centred_congruent}
+use Rattle.whole.specs.Centred.{centred, Congruent}
+use Rattle.whole.proofs.Centred.{centred_turn, centred_congruent}
 use Rattle.whole.specs.Lists.{cut, length_cut, get_or_cut, get_or_map}
 use Rattle.scheme.specs.Arithmetic.{key_rows, switch_entry, switch}
 

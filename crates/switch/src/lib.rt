@@ -1,4 +1,6 @@
 // The switch of document 01's *Arithmetic* in code, proved to give the definition's entries: "the answer is that of the exact S".
+#![tactic(auto)]
+
 ghost use Rattle.std.specs.Prelude.{◌≡◌, true, ◌*◌, ◌≤◌, pos, ◌+ℤ◌, ◌*ℤ◌, nat_abs, length};
 ghost use Rattle.whole.specs.Inner.{inner};
 ghost use Rattle.whole.specs.Lists.{every};

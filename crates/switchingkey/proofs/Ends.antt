@@ -1,9 +1,5 @@
 -- How the maker of a switching key ends: refused, where the number n that was worked out is not 0, with all as found; and done, where it is 0, with the key.
-use mathlib.Core.Path.{◌≡◌, refl, sym, ◌∙◌}
-use mathlib.Core.Logic.{◌≢◌}
-use mathlib.Core.List.{List}
-use Prim.Native.Nat.{ℕ}
-use lib.IntN.{ℤ}
+use Rattle.std.proofs.Common.{◌≡◌, ◌≢◌, List, ℕ, ℤ, refl, sym, ◌∙◌}
 use Rattle.refusal.specs.First.{refused, first_of}
 use Rattle.scheme.specs.Arithmetic.{switching_key}
 use Rattle.scheme.specs.Calls.{MakeKeyLoans, make_key_rows, make_key_answer, make_key_result, MakeKeyPromise}

@@ -1,20 +1,14 @@
 -- What the maker of a switching key works by once its number is 0 (`make_key_ready`), and what it writes: that row 0 is filled entry by entry (`entry_at`), and
 -- that a key is row 0 and then the masks (`two_parts`). Assumes nothing.
-use mathlib.Core.Path.{◌≡◌, refl, sym, ap, ap₂, ◌∙◌}
-use mathlib.Core.List.{List, ◌++◌, append-nil}
-use Prim.Native.Nat.{ℕ, suc, ◌+◌, ◌*◌, ◌-◌, ◌/◌, ◌%◌, ◌≤◌, ◌<◌}
-use native.Mathlib.Nat.{le_trans, suc-mul}
-use native.Mathlib.Omega.{arith}
-use lib.IntN.{ℤ, pos, ◌+ℤ◌, ◌-ℤ◌, ◌*ℤ◌}
-use lib.ListN.{length, get_or, drop, length-append, drop_of_length-le}
-use lib.Seq.{take_at, drop_at}
+use Rattle.std.proofs.Common.{◌≡◌, refl, sym, ap, ap₂, ◌∙◌, List, ◌++◌, append-nil, ℕ, suc, ◌+◌, ◌*◌, ◌-◌, ◌/◌, ◌%◌, ◌≤◌, ◌<◌, le_trans, suc-mul, arith, ℤ, pos, ◌+ℤ◌, ◌-ℤ◌, ◌*ℤ◌, length, get_or, take, drop, length-take, length-drop, length-append, drop_of_length-le, take_at, drop_at}
 use borrow.Rule.Slice.PartMut.{put_mid}
 use Rattle.whole.specs.Tests.{or_left, or_right}
 use Rattle.whole.specs.Centred.{centred}
 use Rattle.whole.specs.Lists.{tabulate, get_or_tabulate, get_or_each, each_get_or}
 use Rattle.whole.specs.Inner.{inner}
 use Rattle.refusal.specs.First.{first_of, Clear}
-use Rattle.refusal.specs.Order.{position_in, order, position, in_order, first_clear}
+use Rattle.refusal.specs.Order.{position_in, order, position, in_order}
+use Rattle.refusal.proofs.Order.{first_clear}
 use Rattle.refusal.specs.Parameters.{InRange}
 use Rattle.scheme.specs.Arithmetic.{mask_column, row_zero_entry}
 use Rattle.scheme.specs.Calls.{MakeKeyLoans, make_key_rows}
@@ -74,6 +68,17 @@ pub entry_at : (n q : ℕ) (s masks f : List ℤ) {r e : ℤ} (j : ℕ) → j < 
     → r ≡ get_or (tabulate (n * n) (row_zero_entry n q s masks f)) j (pos 0)
 unfolding row_zero_entry
 entry_at n q s masks f j h e v = v ∙ rw e (sym (get_or_tabulate (n * n) (row_zero_entry n q s masks f) j (pos 0) h))
+
+-- of a list of two parts the second is what lies after the first k entries
+pub second_part : {A : Type 0} (first rest : List A) (k : ℕ) → length first ≡ k
+    → length (take (length (first ++ rest) - k) (drop k (first ++ rest))) ≡ length rest
+second_part first rest k e =
+    omega (
+      arith,
+      length-take (length (first ++ rest) - k) (drop k (first ++ rest)),
+      length-drop k (first ++ rest),
+      length-append first rest,
+    )
 
 -- a list of two parts: the first was written over the first k entries, and now the second over the others
 pub two_parts : {A : Type 0} (first second rest : List A) (k : ℕ) → length first ≡ k

@@ -1,5 +1,7 @@
 // Switching keys: document 01's *Switching key*. The call takes arbitrary numbers and buffers and refuses bad ones by number; the functions that it works by stand
 // beside it.
+#![tactic(auto)]
+
 ghost use Rattle.std.specs.Prelude.{◌≡◌, ◌*◌, ◌/◌, ◌%◌, pos, ◌+ℤ◌, ◌-ℤ◌, ◌*ℤ◌, length, get_or, drop};
 ghost use Rattle.whole.specs.Centred.{centred};
 ghost use Rattle.whole.specs.Inner.{inner};

@@ -1,14 +1,7 @@
 -- A row of the tensor as a line: for a fixed x, 2·x·y/q rounded is (slope·y + 2^41 + q)/2^42 rounded down (`line_rounds`), where the slope is
 -- x·2^42 over q/2, at most 2 off: so it comes from 2^62 divided by q/2 (`shifted_slope`). That it is at most q/2 in size follows from the
 -- sizes alone (`whole_small`). Assumes nothing.
-use mathlib.Core.Path.{◌≡◌, sym, ap, ◌∙◌}
-use mathlib.Core.Bool.{true}
-use mathlib.Core.List.{[], ◌∷◌}
-use Prim.Native.Nat.{ℕ, ◌+◌, ◌*◌, ◌/◌, ◌%◌, ◌≤◌, ◌<◌}
-use native.Mathlib.Omega.{arith}
-use native.Mathlib.Nat.{mul-le-mul, mul-le-mul_right, lt_of_mul-lt-mul_right, mul_comm, div-add-mod', mod-lt}
-use lib.IntN.{ℤ, pos, negsuc, ◌+ℤ◌, ◌-ℤ◌, ◌*ℤ◌, nat_abs}
-use lib.Signed.{◌≤ℤ◌, ◌<ℤ◌}
+use Rattle.std.proofs.Common.{◌≡◌, sym, ap, ◌∙◌, true, [], ◌∷◌, ℕ, ◌+◌, ◌*◌, ◌/◌, ◌%◌, ◌≤◌, ◌<◌, arith, mul-le-mul, mul-le-mul_right, lt_of_mul-lt-mul_right, mul_comm, div-add-mod', mod-lt, ℤ, pos, negsuc, ◌+ℤ◌, ◌-ℤ◌, ◌*ℤ◌, nat_abs, ◌≤ℤ◌, ◌<ℤ◌}
 use Rattle.whole.specs.Ring.{by_ring, from_eq, quote}
 use Rattle.whole.specs.Split.{zarith, add_is, sub_is, mul_is, size_is, apart}
 use Rattle.whole.specs.Size.{size_mul}

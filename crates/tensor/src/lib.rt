@@ -1,4 +1,6 @@
 // The tensor of document 01's *Arithmetic* in code, proved to give the definition's entries.
+#![tactic(auto)]
+
 ghost use Rattle.std.specs.Prelude.{◌≡◌, true, map, ◌*◌, ◌≤◌, pos, length};
 ghost use Rattle.whole.specs.Lists.{every};
 ghost use Rattle.scheme.specs.Arithmetic.{is_residue, tensor_entry, tensor};

@@ -1,0 +1,8 @@
+-- `tensors::bench_tensor` runs `fill_tensor` over the same buffer. Leans on what `tensor_lent` and `fill_tensor` ensure.
+use Rattle.std.proofs.Common.{sym, ◌∙◌}
+use Rattle.loops.specs.Lent.{tensor_loans}
+use Rattle.loops.proofs.tensors.bench_tensor.Goals as goal
+
+-- past the test the loans are right
+pub fill_tensor-requires : goal.fill_tensor-requires
+fill_tensor-requires c = rw c.loop-k.invariant.run.kept (tensor_loans _ _ _ _ (sym c.tensor_lent.ensures ∙ c.if-not-tensor_lent.false))

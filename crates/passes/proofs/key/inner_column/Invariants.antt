@@ -1,0 +1,12 @@
+-- `inner_column`: `at` is the place of entry j of row i, and the sum so far is the inner product of the first i entries of s and of the column.
+use Rattle.std.proofs.Common.{◌≡◌, ◌+◌, ◌-◌, ◌*◌, length}
+use Rattle.whole.specs.Inner.{column}
+use Rattle.whole.specs.Lists.{cut}
+use Rattle.passes.proofs.Sums.{Summed}
+use Rattle.passes.proofs.key.inner_column.Given as goal
+
+abbrev pub invariant-loop-i : goal.invariant-loop-i
+invariant-loop-i l = (l.at ≡ l.i * l.width + l.j) × Summed l.s (column l.j (cut l.width (length l.s) l.table)) l.sum l.i
+
+abbrev pub decreases-loop-i : goal.decreases-loop-i
+decreases-loop-i l = length l.s - l.i

@@ -1,0 +1,50 @@
+-- `switchingkey::make_switching_key` answers its number, and leaves the buffer as found where that is not 0, and the switching key where it is 0: row 0, which
+-- `fill_row_zero` writes to the first n² entries, and then the masks, which `copy` writes to the others (`two_parts`). What the two ask
+-- holds where the number is 0 (`make_key_ready`). Assumes nothing.
+use Rattle.std.proofs.Common.{◌≡◌, sym, ap, ◌∙◌, ◌-◌, arith, length, drop, length-drop, length-take}
+use Rattle.whole.specs.Lists.{length_tabulate}
+use Rattle.scheme.specs.Arithmetic.{switching_key}
+use Rattle.scheme.specs.Calls.{make_key_loans}
+use Rattle.switchingkey.proofs.Ready.{make_key_ready, fill_ready, second_part, two_parts}
+use Rattle.switchingkey.proofs.Ends.{make_key_refused, make_key_done}
+use Rattle.switchingkey.proofs.make_switching_key.Goals as goal
+
+pub returns-then-number-ne0 : goal.returns-then-number-ne0
+returns-then-number-ne0 c =
+    make_key_refused (make_key_loans c.args.p c.args.s.now c.args.masks.now c.args.errors.now c.args.out.now)
+    c.make_key_number-number.ensures c.if-number-ne0.true
+
+pub slice_bounds-fill_row_zero-end : goal.slice_bounds-fill_row_zero-end
+slice_bounds-fill_row_zero-end c =
+    let a = make_key_loans c.args.p c.args.s.now c.args.masks.now c.args.errors.now c.args.out.now in
+    let r = make_key_ready a (sym c.make_key_number-number.ensures ∙ c.if-number-ne0.false) in
+    omega (arith, r.room)
+
+pub fill_row_zero-requires : goal.fill_row_zero-requires
+fill_row_zero-requires c =
+    let a = make_key_loans c.args.p c.args.s.now c.args.masks.now c.args.errors.now c.args.out.now in
+    let r = make_key_ready a (sym c.make_key_number-number.ensures ∙ c.if-number-ne0.false) in
+    fill_ready r _ (simp length-take (omega (arith, r.room)))
+
+-- row 0 is written, and what lies after it is as long as the masks
+pub copy-requires : goal.copy-requires
+copy-requires c =
+    let a = make_key_loans c.args.p c.args.s.now c.args.masks.now c.args.errors.now c.args.out.now in
+    let r = make_key_ready a (sym c.make_key_number-number.ensures ∙ c.if-number-ne0.false) in
+    let k = length a.errors in
+    let row_long : length c.fill_row_zero.new.out ≡ k = ap length c.fill_row_zero.ensures ∙ length_tabulate _ _ ∙ sym r.errors_long in
+    let rest = drop (k - 0) a.result in
+    sym (second_part c.fill_row_zero.new.out rest k row_long ∙ omega (arith, length-drop (k - 0) a.result, r.room))
+
+-- with the masks after row 0 it is the key
+pub returns : goal.returns
+unfolding switching_key
+returns c =
+    let a = make_key_loans c.args.p c.args.s.now c.args.masks.now c.args.errors.now c.args.out.now in
+    let zero = sym c.make_key_number-number.ensures ∙ c.if-number-ne0.false in
+    let r = make_key_ready a zero in
+    let k = length a.errors in
+    let row_long : length c.fill_row_zero.new.out ≡ k = ap length c.fill_row_zero.ensures ∙ length_tabulate _ _ ∙ sym r.errors_long in
+    let rest = drop (k - 0) a.result in
+    make_key_done a zero
+    (rw c.copy.ensures (two_parts c.fill_row_zero.new.out a.masks rest k row_long ∙ rw (c.fill_row_zero.ensures, r.count)))
