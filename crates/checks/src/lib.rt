@@ -1,4 +1,6 @@
 // The checks of a circuit's gates, counts and bounds: document 01's *Circuits*. What each answers is defined in the crate circuit.
+#![tactic(auto)]
+
 ghost use Rattle.std.specs.Prelude.{◌≡◌, not};
 ghost use Rattle.whole.specs.Lists.{every};
 ghost use Rattle.refusal.specs.First.{first_true};

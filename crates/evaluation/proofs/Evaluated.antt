@@ -1,20 +1,18 @@
 -- The rows of evaluation in two stages: those that it tests itself, and then 8, 9 and 10, which are planning's. And the three ends of evaluation: what each
 -- answers and leaves, where the first stage refuses, where planning does, and where neither does.
-use mathlib.Core.Path.{◌≡◌, refl, sym, ap, ◌∙◌}
-use mathlib.Core.Logic.{◌≢◌}
-use mathlib.Core.List.{List, ◌++◌, flatten}
-use Prim.Native.Nat.{ℕ, ◌*◌}
-use lib.IntN.{ℤ, pos}
-use lib.ListN.{replicate}
+use Rattle.std.proofs.Common.{◌≡◌, refl, sym, ap, ◌∙◌, ◌≢◌, List, ◌++◌, ℕ, ◌*◌, replicate}
+use Rattle.std.specs.Prelude.{ℤ, pos}
+use mathlib.Core.List.{flatten}
 use Rattle.whole.specs.Lists.{cut}
 use Rattle.refusal.specs.declared.Refusal.{Refusal}
-use Rattle.refusal.specs.First.{Row, refused, first_of, are_single, first_front, done_or_done, done_or_refused}
+use Rattle.refusal.specs.First.{Row, refused, first_of, are_single, done_or_done, done_or_refused}
+use Rattle.refusal.proofs.First.{first_front}
 use Rattle.circuit.specs.Circuits.{wires_of}
 use Rattle.circuit.specs.Plan.{stated, shared_rows, plan_answer, plan_bounds, PlanPromise}
 use Rattle.circuit.specs.Evaluate.{EvaluateLoans, evaluate_front, evaluate_rows, evaluate_answer, evaluate_wires, evaluate_bounds, evaluate_scratch, EvaluatePromise}
-use Rattle.circuit.specs.Answers.{answered-early}
+use Rattle.circuit.proofs.Answers.{answered_early}
 use Rattle.circuit.specs.Passed.{evaluate_clear}
-use Rattle.circuit.specs.Exact.{plan_agrees}
+use Rattle.circuit.proofs.Exact.{plan_agrees}
 
 module _ (a : EvaluateLoans) where
   answer_number : {r : Refusal} → r ≡ evaluate_answer a → r.number ≡ first_of (evaluate_rows a)
@@ -35,7 +33,7 @@ module _ (a : EvaluateLoans) where
   early_answer e h =
       let l = a.plan in
       let front : List Row = evaluate_front a ++ shared_rows l in
-      answered-early l.p l.inputs l.circuit.gates (stated l) front (e ∙ sym (first_front (evaluate_front a) (shared_rows l) (λ z. h (e ∙ z)))) h refl
+      answered_early l.p l.inputs l.circuit.gates (stated l) front (e ∙ sym (first_front (evaluate_front a) (shared_rows l) (λ z. h (e ∙ z)))) h refl
 
   pub evaluated_early : {n : ℕ} → n ≡ first_of (evaluate_front a) → n ≢ 0 → EvaluatePromise a (refused n 0) a.wires a.plan.bounds a.scratch
   unfolding evaluate_bounds

@@ -1,4 +1,6 @@
 // Evaluating a circuit of XOR, AND and NOT gates on encrypted wires, over three slices.
+#![tactic(auto)]
+
 mod number;
 
 ghost use Rattle.circuit.specs.Circuits.{as_lists};

@@ -1,20 +1,14 @@
 -- What it tells that none of the rows in front of the gates' applies, and the four ends of planning: what each answers, and what it leaves in the bounds.
-use mathlib.Core.Path.{◌≡◌, refl, sym, ap, ◌∙◌}
-use mathlib.Core.Logic.{◌≢◌}
-use mathlib.Core.Bool.{false}
-use mathlib.Core.List.{List}
-use Prim.Native.Nat.{ℕ, ◌≤◌, ◌<◌}
-use native.Mathlib.Omega.{arith}
-use lib.ListN.{length}
-use lib.Seq.{length-take-le}
+use Rattle.std.proofs.Common.{◌≡◌, refl, sym, ap, ◌∙◌, ◌≢◌, false, List, ℕ, ◌≤◌, ◌<◌, arith, length, length-take-le}
 use Rattle.refusal.specs.declared.Refusal.{Refusal}
 use Rattle.refusal.specs.First.{refused, first_of, first_true, some_true, Clear, are_single, none_first, done_or_done, done_or_refused}
 use Rattle.circuit.specs.declared.Gate.{Gate}
 use Rattle.circuit.specs.Circuits.{wrong_gates}
 use Rattle.circuit.specs.Plan.{PlanLoans, stated, plan_front, plan_rows, plan_answer, plan_bounds, PlanPromise}
 use Rattle.circuit.specs.Passed.{PlanPassed, plan_clear, plan_passed}
-use Rattle.circuit.specs.Records.{length_wrong_gates, length_bounds_of}
-use Rattle.circuit.specs.Answers.{answered-early, answered-wrong, answered-over, answered-done}
+use Rattle.circuit.specs.Records.{length_wrong_gates}
+use Rattle.circuit.proofs.Records.{length_bounds_of}
+use Rattle.circuit.proofs.Answers.{answered_early, answered_wrong, answered_over, answered_done}
 use Rattle.planning.proofs.Settling.{bounds_all, over_all}
 
 pub record PlanReady (a : PlanLoans) : Type 0 where
@@ -42,7 +36,7 @@ module _ (a : PlanLoans) where
   -- one of the rows in front applies
   pub planned_early : {n : ℕ} → n ≡ first_of (plan_front a) → n ≢ 0 → PlanPromise a (refused n 0) a.bounds
   unfolding plan_answer plan_rows plan_front are_single
-  planned_early e h = planned_refused h (answered-early a.p a.inputs gates (stated a) (plan_front a) e h refl)
+  planned_early e h = planned_refused h (answered_early a.p a.inputs gates (stated a) (plan_front a) e h refl)
 
   module _ (r : PlanReady a) where
     -- the bounds of all wires are as many as the buffer holds
@@ -54,7 +48,7 @@ module _ (a : PlanLoans) where
     -- a gate is wrong
     pub planned_wrong : {w : ℕ} → w ≡ first_true (wrong_gates a.inputs a.circuit.gates) → w < a.circuit.count → PlanPromise a (refused 9 w) a.bounds
     unfolding plan_answer plan_rows
-    planned_wrong e h = planned_refused (λ z. omega arith) (rw e (answered-wrong a.p a.inputs gates (stated a) (plan_front a) r.clear (omega (arith, e, r.many))))
+    planned_wrong e h = planned_refused (λ z. omega arith) (rw e (answered_wrong a.p a.inputs gates (stated a) (plan_front a) r.clear (omega (arith, e, r.many))))
 
     module _ (right : a.circuit.count ≤ first_true (wrong_gates a.inputs a.circuit.gates)) where
       all_right : length gates ≤ first_true (wrong_gates a.inputs gates)
@@ -67,12 +61,12 @@ module _ (a : PlanLoans) where
       pub planned_over : {o : ℕ} → o ≡ first_true (over_all a) → o < a.circuit.count → PlanPromise a (refused 10 o) a.bounds
       unfolding plan_answer plan_rows
       planned_over e h =
-          planned_refused (λ z. omega arith) (rw e (answered-over a.p a.inputs gates (stated a) (plan_front a) r.clear all_right (omega (arith, e, r.many))))
+          planned_refused (λ z. omega arith) (rw e (answered_over a.p a.inputs gates (stated a) (plan_front a) r.clear all_right (omega (arith, e, r.many))))
 
       -- none is
       pub planned_done : {o : ℕ} {out : List ℕ} → o ≡ first_true (over_all a) → a.circuit.count ≤ o
           → out ≡ bounds_all a → PlanPromise a (refused 0 0) out
       unfolding plan_answer plan_rows plan_bounds
       planned_done e h w =
-          let answer : refused 0 0 ≡ plan_answer a = answered-done a.p a.inputs gates (stated a) (plan_front a) r.clear all_right (omega (arith, e, r.many)) in
+          let answer : refused 0 0 ≡ plan_answer a = answered_done a.p a.inputs gates (stated a) (plan_front a) r.clear all_right (omega (arith, e, r.many)) in
           record { answer = answer; bounds_left = w ∙ sym (done_or_done _ a.bounds (sym (ap (λ (x : Refusal). x.number) answer))) }

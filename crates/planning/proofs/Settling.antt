@@ -1,13 +1,7 @@
 -- The invariant of `settle` and its laws. The gates are settled one after the other: the wires up to `own` have their bounds, each of them
 -- fits, and so the first gate over the budget is not before g.
-use mathlib.Core.Path.{◌≡◌, refl, sym, ap, ◌∙◌}
-use mathlib.Core.Bool.{Bool, true, false}
-use mathlib.Core.List.{List, [], ◌∷◌, ◌++◌}
-use Prim.Native.Nat.{ℕ, suc, ◌+◌, ◌*◌, ◌≤◌, ◌<◌}
-use native.Mathlib.Numerals.{add-one}
-use native.Mathlib.Omega.{arith}
-use lib.ListN.{length, get_or, take, set, length-set}
-use lib.Seq.{length-take-le, take-suc, take-suc-set, take-set-le, take_all, get_or-take, get_or-set_same}
+use Rattle.std.proofs.Common.{◌≡◌, refl, sym, ap, ◌∙◌, Bool, true, false, List, [], ◌∷◌, ◌++◌, ℕ, suc, ◌+◌, ◌*◌, ◌≤◌, ◌<◌, add-one, arith, length, get_or, take, set, length-set, length-take-le, take-suc, take-suc-set, take_all, get_or-take, get_or-set_same}
+use Rattle.std.proofs.lemmas.List.{take-set-le}
 use Rattle.whole.specs.Tests.{and_both}
 use Rattle.whole.specs.Lists.{every, every_suc, every_get_or}
 use Rattle.refusal.specs.First.{first_true, first_past, first_here, first_within}
@@ -17,8 +11,9 @@ use Rattle.scheme.specs.Passed.{fits_below, below_fits, below_over, above_over}
 use Rattle.circuit.specs.declared.Gate.{Gate}
 use Rattle.circuit.specs.Circuits.{by_kind, gate_bound, bounds_of, over_gates}
 use Rattle.circuit.specs.Plan.{PlanLoans, stated}
-use Rattle.circuit.specs.Run.{run_inputs, run_gate}
-use Rattle.circuit.specs.Records.{Below, length_bounds_of, length_over_gates, get_or_over_gates}
+use Rattle.circuit.proofs.Run.{run_inputs, run_gate}
+use Rattle.circuit.specs.Records.{Below}
+use Rattle.circuit.proofs.Records.{length_bounds_of, length_over_gates, get_or_over_gates}
 
 -- the bounds of all wires, and for each gate whether it is over the budget
 abbrev pub bounds_all : PlanLoans → List ℕ

@@ -1,4 +1,6 @@
 // Planning a circuit whose gates are lent in three lists: the checks of its gates, and the bounds of its wires.
+#![tactic(auto)]
+
 ghost use Rattle.std.specs.Prelude.{◌≡◌, ◌≤◌, length, take};
 ghost use Rattle.refusal.specs.First.{first_true, first_of};
 ghost use Rattle.scheme.specs.Arithmetic.{XOR_bound, AND_bound, NOT_bound};
@@ -36,7 +38,7 @@ fn settle(
     table: &mut [u32],
 ) -> usize
     requires { SettleReady p inputs kinds.now lefts.now rights.now table.old }
-    ensures value { result ≡ first_true (over_gates p (records kinds.now lefts.now rights.now) (take inputs table.old)) }
+    ensures answer { result ≡ first_true (over_gates p (records kinds.now lefts.now rights.now) (take inputs table.old)) }
     ensures table_after { length kinds.now ≤ result → table.new ≡ bounds_of p (records kinds.now lefts.now rights.now) (take inputs table.old) }
 {
     let mut own = inputs;

@@ -1,4 +1,1 @@
-pub mod Calling
-pub mod Gates
 pub mod Listing
-pub mod Rows

@@ -1,11 +1,7 @@
 -- Gates listed by their fields. The invariant of `list` and its laws: the fields of the first i gates are listed, the rest of each list is as
 -- found. And a circuit that is lent as the lists is that of the gates (`listed_circuit`).
-use mathlib.Core.Path.{◌≡◌, sym, ap, ◌∙◌}
-use mathlib.Core.List.{List}
-use Prim.Native.Nat.{ℕ, ◌+◌, ◌-◌, ◌<◌}
-use native.Mathlib.Nat.{sub-zero}
-use native.Mathlib.Omega.{arith}
-use lib.ListN.{length, get_or, take, set}
+use Rattle.std.proofs.Common.{◌≡◌, sym, ap, ◌∙◌, List, ℕ, ◌+◌, ◌-◌, ◌<◌, arith, length, get_or, take, set}
+use Rattle.std.proofs.Math.Nat.{sub-zero}
 use Rattle.whole.specs.Lists.{Filled, fill_start, fill_step, fill_front, get_or_map, take_map}
 use Rattle.circuit.specs.declared.Gate.{Gate}
 use Rattle.circuit.specs.Circuits.{as_records, as_lists}

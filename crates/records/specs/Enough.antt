@@ -11,7 +11,7 @@ use Rattle.circuit.specs.declared.Gate.{Gate}
 use Rattle.circuit.specs.Circuits.{bad_counts, as_records}
 use Rattle.circuit.specs.Plan.{PlanLoans, plan_loans, plan_front, plan_rows, plan_answer, plan_bounds, PlanPromise}
 use Rattle.circuit.specs.Evaluate.{EvaluateLoans, evaluate_loans, evaluate_front, evaluate_rows, evaluate_answer, evaluate_wires, evaluate_bounds, evaluate_scratch, EvaluatePromise}
-use Rattle.circuit.specs.Answers.{gates-within}
+use Rattle.circuit.specs.Answers.{gates_within}
 use Rattle.records.specs.First.{listed_count, first_gates, count_there, count_few, count_many, take_first}
 
 -- ---- a run that is too long
@@ -21,7 +21,7 @@ too_many inputs gates h = by_test (bad_counts inputs gates) refl
   where
     by_test : (t : Bool) → bad_counts inputs gates ≡ t → t ≡ true
     by_test true e = refl
-    by_test false e = absurd (omega (arith, gates-within inputs gates e))
+    by_test false e = absurd (omega (arith, gates_within inputs gates e))
 
 -- the number is 1 or 2
 one_or_two : (t : Bool) (rest : List Row) → answer_of (row 1 t ∷ row 2 true ∷ rest) ≡ refused (cond t 1 2) 0

@@ -1,13 +1,7 @@
 -- The stretch of one wire: what is written over it, and what the operands of a gate are once they are copied.
-use mathlib.Core.Path.{◌≡◌, sym, ap, ◌∙◌}
-use mathlib.Core.Bool.{true}
-use mathlib.Core.List.{List, [], ◌++◌}
-use Prim.Native.Nat.{ℕ, ◌+◌, ◌*◌, ◌-◌, ◌≤◌}
-use native.Mathlib.Nat.{add-sub_cancel_left}
-use native.Mathlib.Omega.{arith}
+use Rattle.std.proofs.Common.{◌≡◌, sym, ap, ◌∙◌, true, List, [], ◌++◌, ℕ, ◌+◌, ◌*◌, ◌-◌, ◌≤◌, arith, length, take, drop, drop-drop}
 use lib.IntN.{ℤ}
-use lib.ListN.{length, take, drop}
-use lib.Seq.{drop-drop}
+use Rattle.std.proofs.Math.Nat.{add-sub_cancel_left}
 use borrow.Rule.Slice.PartMut.{put_mid, mid_len}
 use Rattle.whole.specs.Lists.{every, cut, get_or_cut}
 use Rattle.refusal.specs.declared.Params.{Params}

@@ -1,22 +1,15 @@
 -- The invariant of the evaluation's loop: after g gates the buffer begins with the wires of the run over those gates, joined, and each of them is a
 -- ciphertext; what lies behind them is as found.
-use mathlib.Core.Path.{◌≡◌, refl, sym, ap, ◌∙◌}
-use mathlib.Core.Bool.{true, false}
-use mathlib.Core.List.{List, [], ◌∷◌, ◌++◌, append_assoc, append-nil, flatten}
-use Prim.Native.Nat.{ℕ, ◌+◌, ◌*◌, ◌≤◌, ◌<◌}
-use native.Mathlib.Nat.{add-zero, suc-mul, mul-le-mul_right}
-use native.Mathlib.Numerals.{add-one}
-use native.Mathlib.Omega.{arith}
+use Rattle.std.proofs.Common.{◌≡◌, refl, sym, ap, ◌∙◌, true, false, List, [], ◌∷◌, ◌++◌, append_assoc, append-nil, ℕ, ◌+◌, ◌*◌, ◌≤◌, ◌<◌, add-zero, suc-mul, mul-le-mul_right, add-one, arith, length, get_or, take, drop, take-append-drop, drop_of_length-le, length-take-le, take_all, take_at, drop_at, drop-drop}
 use lib.IntN.{ℤ}
-use lib.ListN.{length, get_or, take, drop, take-append-drop, drop_of_length-le}
-use lib.Seq.{length-take-le, take_all, take_at, drop_at, drop-drop}
+use mathlib.Core.List.{flatten}
 use Rattle.whole.specs.Lists.{Each, nil, cons, each_get_or, get_or_each, each_append, every, every_flatten, cut, length_cut, flatten_cut_take, cut_flatten_append, length_flatten, flatten_suc}
 use Rattle.refusal.specs.declared.Params.{Params}
 use Rattle.refusal.specs.Parameters.{InRange}
 use Rattle.scheme.specs.Arithmetic.{is_residue}
 use Rattle.circuit.specs.declared.Gate.{Gate}
 use Rattle.circuit.specs.Circuits.{run, gate_wire, wrong_gate, wires_of}
-use Rattle.circuit.specs.Run.{length_run, run_suc}
+use Rattle.circuit.proofs.Run.{length_run, run_suc}
 use Rattle.circuit.specs.Wires.{Wire, input_wires, gate_wire_lem}
 
 -- the wires after g gates, from the k inputs that lie in `found`

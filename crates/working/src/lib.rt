@@ -1,4 +1,6 @@
 // Working the gates of a circuit that nothing refuses: each gate's own stretch of the wires is lent to XOR, AND or NOT.
+#![tactic(auto)]
+
 ghost use Rattle.std.specs.Prelude.{◌≡◌, ◌+◌, ◌*◌, pos, take, drop, replicate};
 ghost use mathlib.Core.List.{◌++◌, flatten};
 ghost use Rattle.whole.specs.Lists.{cut};
