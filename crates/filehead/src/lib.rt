@@ -1,4 +1,6 @@
 // The head of a circuit file, its first 23 bytes, and the refusals before those of the gates. The readers take any file: past its end every byte is 0.
+#![tactic(auto)]
+
 pub mod field;
 
 ghost use Rattle.std.specs.Prelude.{◌≡◌, ◌+◌, ◌<◌};
@@ -23,6 +25,7 @@ pub fn is_known(file: &[u8]) -> bool
 }
 
 // n, q, L, E and F.
+#[tactic(auto, unfolding(circuitfile::specs::File::file_params))]
 pub fn params(file: &[u8]) -> Params
     ensures { result ≡ file_params file.now }
 {
@@ -36,6 +39,7 @@ pub fn params(file: &[u8]) -> Params
 }
 
 // How many inputs the file has.
+#[tactic(auto, unfolding(circuitfile::specs::File::file_inputs))]
 pub fn inputs(file: &[u8]) -> u32
     ensures { (result ≡ file_inputs file.now) × (result < 65536) }
 {
@@ -43,6 +47,7 @@ pub fn inputs(file: &[u8]) -> u32
 }
 
 // How many gates the file has.
+#[tactic(auto, unfolding(circuitfile::specs::File::file_gate_count))]
 pub fn gate_count(file: &[u8]) -> usize
     ensures { (result ≡ file_gate_count file.now) × (result < 65536) }
 {

@@ -1,12 +1,6 @@
 -- The four ends of planning on a file: what each answers, and what it leaves in the buffer of bounds.
-use mathlib.Core.Path.{◌≡◌, sym, ap, ◌∙◌}
-use mathlib.Core.Logic.{◌≢◌}
-use mathlib.Core.Bool.{true, not}
-use mathlib.Core.List.{List, flat_map}
-use Prim.Native.Nat.{ℕ, ◌+◌, ◌*◌}
-use native.Mathlib.Omega.{arith}
-use lib.ListN.{length}
-use borrow.Author.Tests.{ne_eqb}
+use Rattle.std.proofs.Common.{◌≡◌, ◌≢◌, sym, ap, ◌∙◌, true, not, List, ℕ, ◌+◌, ◌*◌, length, arith, ne_eqb}
+use mathlib.Core.List.{flat_map}
 use Rattle.refusal.specs.declared.Refusal.{Refusal}
 use Rattle.refusal.specs.First.{refused, first_of, done_or_done, done_or_refused}
 use Rattle.scheme.specs.Passed.{differs_is, lengths_same}

@@ -1,9 +1,5 @@
 -- The invariant of the loop that lists a file's gates, and its laws: the gates up to g are listed, and the next one stands at `at`.
-use mathlib.Core.Path.{◌≡◌, refl, sym, ap, ◌∙◌}
-use mathlib.Core.List.{List}
-use Prim.Native.Nat.{ℕ, ◌+◌, ◌*◌, ◌<◌}
-use native.Mathlib.Omega.{arith}
-use lib.ListN.{length, get_or, set}
+use Rattle.std.proofs.Common.{◌≡◌, refl, sym, ap, ◌∙◌, List, ℕ, ◌+◌, ◌*◌, ◌<◌, length, get_or, set, arith}
 use Rattle.whole.specs.Lists.{Filled, fill_start, fill_step}
 use Rattle.circuit.specs.declared.Gate.{Gate}
 use Rattle.circuitfile.specs.File.{field, file_gate_count, file_gate}

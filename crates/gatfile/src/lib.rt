@@ -1,4 +1,6 @@
 // The circuit file in code: its check, and planning on its bytes.
+#![tactic(auto)]
+
 pub mod plan;
 mod settle;
 

@@ -16,7 +16,7 @@ const GATES: usize = 4096;
 pub const WIRES: usize = 5120;
 
 // What the check of a file answers: number and place, and the bounds of all wires at the front of a table, which is 0 elsewhere and on a refusal.
-#[derive(Drop)]
+#[derive(Clone, Copy)]
 pub struct FileBounds {
     pub number: u32,
     pub place: u64,

@@ -1,4 +1,6 @@
 // What the evaluation host, which is written in C, calls: numbers and byte slices alone.
+#![tactic(auto)]
+
 ghost use Rattle.circuitfile.specs.File.{CheckPromise, PlanFilePromise};
 
 // The check of a circuit file: 65,536 times the number plus the place.

@@ -1,4 +1,6 @@
 // The printed text of a circuit file, into a lent buffer.
+#![tactic(auto)]
+
 mod line;
 mod write;
 
@@ -6,7 +8,7 @@ ghost use Rattle.std.specs.Prelude.{◌≡◌, ◌++◌, ◌≤◌, length};
 ghost use Rattle.refusal.specs.First.{first_of};
 ghost use Rattle.circuitfile.specs.File.{file_bounds, head_rows};
 ghost use Rattle.circuitfile.specs.Text.{wire_lines, ok_line, TextPromise};
-ghost use Rattle.circuitfile.specs.Text.{text as fileText};
+ghost use Rattle.circuitfile.specs.Text.{text as file_text};
 ghost use Rattle.gatfile.specs.Writing.{Written};
 
 use crate::line::{put_pair, put_wire};
@@ -47,7 +49,7 @@ fn put_bounds(file: &[u8], bounds: &[u32], out: &mut [u8]) -> usize
 // The text, where there is room for any.
 fn put_text(file: &[u8], out: &mut [u8]) -> usize
     requires { 102432 ≤ length out.old }
-    ensures { Written (fileText file.now) out.old out.new 0 result }
+    ensures { Written (file_text file.now) out.old out.new 0 result }
 {
     let r = bounds(file);
     if r.number != 0 {
@@ -61,8 +63,8 @@ fn put_text(file: &[u8], out: &mut [u8]) -> usize
 // Writes the text at the front of the buffer and answers its length. A buffer that is shorter than the text is refused with 3, and nothing is
 // written. No text is longer than 102,432 bytes.
 pub fn text(file: &[u8], out: &mut [u8]) -> Printed
-    ensures text_promise { TextPromise file.now out.old result out.new }
-    ensures file_len_bound { length (fileText file.now) ≤ 102432 }
+    ensures promise { TextPromise file.now out.old result out.new }
+    ensures length_high { length (file_text file.now) ≤ 102432 }
 {
     let mut room = [0u8; ROOM];
     let long = put_text(file, &mut room);
