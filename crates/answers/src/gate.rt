@@ -4,9 +4,11 @@ ghost use Rattle.stream.specs.Bounds.{Placed};
 use calls::read::{MIDDLE, SHORT};
 use calls::{lent, print};
 use refusal::Params;
+use std::io::Write;
 
 // XOR into `out`; puts the answer and `out`.
-fn put_xor(
+fn put_xor<W: Write>(
+    output: &mut W,
     text: &mut [u8],
     at: usize,
     p: Params,
@@ -18,12 +20,12 @@ fn put_xor(
 ) -> usize
     ensures { Placed result text.old text.new }
 {
-    let to = print::bounded(text, at, gates::xor(p, c, b1, d, b2, out));
-    print::entries(text, to, out)
+    let to = print::bounded(output, text, at, gates::xor(p, c, b1, d, b2, out));
+    print::entries(output, text, to, out)
 }
 
 // Call 9: a parameter set, two ciphertexts, each with its bound, and the result as found.
-pub fn xor(call: &[i64], text: &mut [u8], at: usize) -> usize
+pub fn xor<W: Write>(output: &mut W, call: &[i64], text: &mut [u8], at: usize) -> usize
     ensures { Placed result text.old text.new }
 {
     let mut out = [0i64; SHORT];
@@ -37,19 +39,27 @@ pub fn xor(call: &[i64], text: &mut [u8], at: usize) -> usize
     let b2 = lent::word(call, at_b2);
     let at_out = lent::next(call, at_b2);
     let len = lent::buffer(call, at_out, &mut out);
-    put_xor(text, at, p, c, b1, d, b2, &mut out[0..len])
+    put_xor(output, text, at, p, c, b1, d, b2, &mut out[0..len])
 }
 
 // NOT into `out`; puts the answer and `out`.
-fn put_not(text: &mut [u8], at: usize, p: Params, c: &[i64], bound: u32, out: &mut [i64]) -> usize
+fn put_not<W: Write>(
+    output: &mut W,
+    text: &mut [u8],
+    at: usize,
+    p: Params,
+    c: &[i64],
+    bound: u32,
+    out: &mut [i64],
+) -> usize
     ensures { Placed result text.old text.new }
 {
-    let to = print::bounded(text, at, gates::not(p, c, bound, out));
-    print::entries(text, to, out)
+    let to = print::bounded(output, text, at, gates::not(p, c, bound, out));
+    print::entries(output, text, to, out)
 }
 
 // Call 10: a parameter set, a ciphertext, its bound and the result as found.
-pub fn not(call: &[i64], text: &mut [u8], at: usize) -> usize
+pub fn not<W: Write>(output: &mut W, call: &[i64], text: &mut [u8], at: usize) -> usize
     ensures { Placed result text.old text.new }
 {
     let mut out = [0i64; SHORT];
@@ -59,11 +69,12 @@ pub fn not(call: &[i64], text: &mut [u8], at: usize) -> usize
     let bound = lent::word(call, at_bound);
     let at_out = lent::next(call, at_bound);
     let len = lent::buffer(call, at_out, &mut out);
-    put_not(text, at, p, c, bound, &mut out[0..len])
+    put_not(output, text, at, p, c, bound, &mut out[0..len])
 }
 
 // AND into `out`; puts the answer, the scratch and `out`.
-fn put_and(
+fn put_and<W: Write>(
+    output: &mut W,
     text: &mut [u8],
     at: usize,
     p: Params,
@@ -78,14 +89,14 @@ fn put_and(
     ensures { Placed result text.old text.new }
 {
     let answer = gates::and(p, c, b1, d, b2, key, scratch, out);
-    let to = print::bounded(text, at, answer);
-    let end = print::entries(text, to, scratch);
-    print::entries(text, end, out)
+    let to = print::bounded(output, text, at, answer);
+    let end = print::entries(output, text, to, scratch);
+    print::entries(output, text, end, out)
 }
 
 // Call 11: a parameter set, two ciphertexts, each with its bound, a switching key, scratch and the
 // result, both as found.
-pub fn and(call: &[i64], text: &mut [u8], at: usize) -> usize
+pub fn and<W: Write>(output: &mut W, call: &[i64], text: &mut [u8], at: usize) -> usize
     ensures { Placed result text.old text.new }
 {
     let mut scratch = [0i64; MIDDLE];
@@ -105,6 +116,7 @@ pub fn and(call: &[i64], text: &mut [u8], at: usize) -> usize
     let width = lent::buffer(call, at_scratch, &mut scratch);
     let len = lent::buffer(call, at_out, &mut out);
     put_and(
+        output,
         text,
         at,
         p,

@@ -1,5 +1,7 @@
-// Calls as text: reading one from standard input into a store, what it then lends to the engine, and printing what the engine answered and left. For the
+// Calls as text: reading one into a store, what it then lends to the engine, and printing what the engine answered and left. For the
 // program that compares.
+#![tactic(auto)]
+
 pub mod lent;
 pub mod print;
 pub mod read;

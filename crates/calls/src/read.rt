@@ -5,6 +5,7 @@ ghost use Rattle.std.specs.Prelude.{◌≡◌, length};
 ghost use Rattle.stream.specs.Bounds.{CountIn};
 
 use crate::width::count;
+use std::io::Read;
 use stream::Cursor;
 
 // What a call has at a place: nothing (O), a number of 32 bits from 0 up (W), a number of 64 bits
@@ -81,7 +82,7 @@ const SHAPES: [[u8; 13]; 19] = [
 
 // Where reading stands: what is left of the block that was read last, how many numbers the store
 // has, the number that was read last, and whether everything so far could be read.
-#[derive(Drop)]
+#[derive(Clone, Copy)]
 pub struct Reader {
     pub cursor: Cursor,
     pub at: usize,
@@ -90,10 +91,17 @@ pub struct Reader {
 }
 
 // One number, which must lie within low and high.
-fn take(block: &mut [u8], r: Reader, store: &mut [i64], low: i64, high: i64) -> Reader {
+fn take<R: Read>(
+    input: &mut R,
+    block: &mut [u8],
+    r: Reader,
+    store: &mut [i64],
+    low: i64,
+    high: i64,
+) -> Reader {
     let from = r.cursor;
     let at = r.at;
-    let t = stream::number(block, from);
+    let t = stream::number(input, block, from);
     let cursor = t.cursor;
     let value = t.value;
     if t.found {
@@ -120,10 +128,18 @@ fn take(block: &mut [u8], r: Reader, store: &mut [i64], low: i64, high: i64) -> 
 }
 
 // n numbers that lie within low and high.
-fn run(block: &mut [u8], r: Reader, store: &mut [i64], n: usize, low: i64, high: i64) -> Reader {
+fn run<R: Read>(
+    input: &mut R,
+    block: &mut [u8],
+    r: Reader,
+    store: &mut [i64],
+    n: usize,
+    low: i64,
+    high: i64,
+) -> Reader {
     let mut now = r;
     for _ in 0..n {
-        now = take(block, now, store, low, high);
+        now = take(input, block, now, store, low, high);
         if !now.good {
             return now;
         }
@@ -155,23 +171,30 @@ fn most(kind: u8) -> i64 {
 }
 
 // A list: its count and its entries.
-fn list(block: &mut [u8], r: Reader, store: &mut [i64], kind: u8) -> Reader {
-    let counted = take(block, r, store, 0, most(kind));
+fn list<R: Read>(
+    input: &mut R,
+    block: &mut [u8],
+    r: Reader,
+    store: &mut [i64],
+    kind: u8,
+) -> Reader {
+    let counted = take(input, block, r, store, 0, most(kind));
     if !counted.good {
         return counted;
     }
     let n = count(counted.value);
     if kind == K {
-        return run(block, counted, store, n, -2147483648, 2147483647);
+        return run(input, block, counted, store, n, -2147483648, 2147483647);
     }
     // B and T are bytes, U and G numbers of 32 bits from 0 up.
     if kind >= B {
-        return run(block, counted, store, n, 0, 255);
+        return run(input, block, counted, store, n, 0, 255);
     }
     if kind >= U {
-        return run(block, counted, store, n, 0, 4294967295);
+        return run(input, block, counted, store, n, 0, 4294967295);
     }
     run(
+        input,
         block,
         counted,
         store,
@@ -182,7 +205,13 @@ fn list(block: &mut [u8], r: Reader, store: &mut [i64], kind: u8) -> Reader {
 }
 
 // What a call has at a place. Nothing more is read after what could not be read.
-fn part(block: &mut [u8], r: Reader, store: &mut [i64], kind: u8) -> Reader {
+fn part<R: Read>(
+    input: &mut R,
+    block: &mut [u8],
+    r: Reader,
+    store: &mut [i64],
+    kind: u8,
+) -> Reader {
     if !r.good {
         return r;
     }
@@ -190,20 +219,33 @@ fn part(block: &mut [u8], r: Reader, store: &mut [i64], kind: u8) -> Reader {
         return r;
     }
     if kind == W {
-        return take(block, r, store, 0, 4294967295);
+        return take(input, block, r, store, 0, 4294967295);
     }
     if kind == X {
-        return take(block, r, store, -9223372036854775808, 9223372036854775807);
+        return take(
+            input,
+            block,
+            r,
+            store,
+            -9223372036854775808,
+            9223372036854775807,
+        );
     }
-    list(block, r, store, kind)
+    list(input, block, r, store, kind)
 }
 
 // Everything that a call has after its number.
-fn parts(block: &mut [u8], r: Reader, store: &mut [i64], shape: [u8; 13]) -> Reader {
+fn parts<R: Read>(
+    input: &mut R,
+    block: &mut [u8],
+    r: Reader,
+    store: &mut [i64],
+    shape: [u8; 13],
+) -> Reader {
     let mut now = r;
     for i in 0..13 {
         let kind = shape[i];
-        now = part(block, now, store, kind);
+        now = part(input, block, now, store, kind);
     }
     now
 }
@@ -219,7 +261,7 @@ fn shape(number: i64) -> [u8; 13] {
 
 // The next call, at the front of the store: its numbers are those before `at`. The last test never
 // fails, since a number is put only where the store has room; by it the count is known to be one.
-pub fn call(block: &mut [u8], from: Cursor, store: &mut [i64]) -> Reader
+pub fn call<R: Read>(input: &mut R, block: &mut [u8], from: Cursor, store: &mut [i64]) -> Reader
     ensures count_in { CountIn result.at store.new }
     ensures store_len_unchanged { length store.new ≡ length store.old }
 {
@@ -229,8 +271,8 @@ pub fn call(block: &mut [u8], from: Cursor, store: &mut [i64]) -> Reader
         value: 0,
         good: true,
     };
-    let number = take(block, start, store, 1, 18);
-    let last = parts(block, number, store, shape(number.value));
+    let number = take(input, block, start, store, 1, 18);
+    let last = parts(input, block, number, store, shape(number.value));
     let cursor = last.cursor;
     if last.at <= store.len() {
         return last;

@@ -2,7 +2,7 @@
 use Rattle.std.specs.Prelude.{◌≡◌, refl, Bool, true, false, cond, ◌&&◌, List, [], ◌∷◌, ℕ, zero, suc, ◌+◌, ◌%◌, ◌≤◌, ◌<◌, leb, eqb, ℤ, pos, nat_abs, length, take, get_or}
 use Rattle.std.proofs.Common.{ap, le_of_suc-le-suc, not-suc-le-zero, add-one, arith, take_all, leb-true, eqb-true}
 use Rattle.whole.specs.Tests.{clash, and_left, and_right, and_both}
-use Rattle.whole.specs.Lists.{every, every_suc, every_get_or, every-each}
+use Rattle.whole.specs.Lists.{every, every_suc, every_get_or, every_each}
 use Rattle.scheme.specs.Loans.{Modulus, UpTo}
 use Rattle.stream.specs.Ranges.{inside, up_from}
 
@@ -36,7 +36,7 @@ at_most most x e = leb-true (nat_abs x) most e
 
 -- where all entries pass, every entry is at most `most` in size
 pub up_to : (most : ℕ) (xs : List ℤ) → every (is_up_to most) xs ≡ true → UpTo most xs
-up_to most xs e = every-each (is_up_to most) xs (at_most most) e
+up_to most xs e = every_each (is_up_to most) xs (at_most most) e
 
 -- one more entry passes
 pub every_more : (p : ℤ → Bool) (xs : List ℤ) (i : ℕ) → i < length xs → every p (take i xs) ≡ true → p (get_or xs i (pos 0)) ≡ true → every p (take (i + 1) xs) ≡ true

@@ -1,10 +1,11 @@
 // Reads a case: its number, its numbers and its lists.
 ghost use Rattle.stream.specs.Bounds.{CountIn};
 
+use std::io::Read;
 use stream::{Cursor, Taken, Token};
 
 // The start of a case: its number, and up to three numbers. Those that it does not have are 0. Where it is not whole, the input ended or had no number.
-#[derive(Drop)]
+#[derive(Clone, Copy)]
 pub struct Head {
     pub cursor: Cursor,
     pub whole: bool,
@@ -15,7 +16,7 @@ pub struct Head {
 }
 
 // A case: its start, and how many entries of its two lists stand at the front of what was lent. A list that it does not have is empty.
-#[derive(Drop)]
+#[derive(Clone, Copy)]
 pub struct Case {
     pub head: Head,
     pub cursor: Cursor,
@@ -44,9 +45,9 @@ fn lists(case: i64) -> usize {
 }
 
 // The next number where one is wanted, and otherwise 0.
-fn number_if(wanted: bool, block: &mut [u8], c: Cursor) -> Token {
+fn number_if<R: Read>(input: &mut R, wanted: bool, block: &mut [u8], c: Cursor) -> Token {
     if wanted {
-        return stream::number(block, c);
+        return stream::number(input, block, c);
     }
     Token {
         cursor: c,
@@ -56,11 +57,17 @@ fn number_if(wanted: bool, block: &mut [u8], c: Cursor) -> Token {
 }
 
 // The next list where one is wanted, and otherwise an empty one.
-fn list_if(wanted: bool, block: &mut [u8], c: Cursor, out: &mut [i64]) -> Taken
+fn list_if<R: Read>(
+    input: &mut R,
+    wanted: bool,
+    block: &mut [u8],
+    c: Cursor,
+    out: &mut [i64],
+) -> Taken
     ensures { CountIn result.len out.new }
 {
     if wanted {
-        return stream::list(block, c, out);
+        return stream::list(input, block, c, out);
     }
     Taken {
         cursor: c,
@@ -70,12 +77,12 @@ fn list_if(wanted: bool, block: &mut [u8], c: Cursor, out: &mut [i64]) -> Taken
 }
 
 // The start of the next case. Nothing more is read once a number is missing.
-fn read_head(block: &mut [u8], c: Cursor) -> Head {
-    let first = stream::number(block, c);
+fn read_head<R: Read>(input: &mut R, block: &mut [u8], c: Cursor) -> Head {
+    let first = stream::number(input, block, c);
     let n = numbers(first.value);
-    let x = number_if(first.found & (0 < n), block, first.cursor);
-    let y = number_if(x.found & (1 < n), block, x.cursor);
-    let z = number_if(x.found & y.found & (2 < n), block, y.cursor);
+    let x = number_if(input, first.found & (0 < n), block, first.cursor);
+    let y = number_if(input, x.found & (1 < n), block, x.cursor);
+    let z = number_if(input, x.found & y.found & (2 < n), block, y.cursor);
     let cursor = z.cursor;
     Head {
         cursor,
@@ -88,14 +95,21 @@ fn read_head(block: &mut [u8], c: Cursor) -> Head {
 }
 
 // The next case, with its lists at the front of `left` and `right`. Nothing more is read once an operand is missing.
-pub fn read(block: &mut [u8], c: Cursor, left: &mut [i64], right: &mut [i64]) -> Case
-    ensures count_in { CountIn result.left left.new }
-    ensures count_in_2 { CountIn result.right right.new }
+pub fn read<R: Read>(
+    input: &mut R,
+    block: &mut [u8],
+    c: Cursor,
+    left: &mut [i64],
+    right: &mut [i64],
+) -> Case
+    ensures left_count { CountIn result.left left.new }
+    ensures right_count { CountIn result.right right.new }
 {
-    let head = read_head(block, c);
+    let head = read_head(input, block, c);
     let m = lists(head.number);
-    let first = list_if(head.whole & (0 < m), block, head.cursor, left);
+    let first = list_if(input, head.whole & (0 < m), block, head.cursor, left);
     let second = list_if(
+        input,
         head.whole & first.whole & (1 < m),
         block,
         first.cursor,

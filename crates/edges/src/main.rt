@@ -20,6 +20,8 @@
 // The first list of a case holds up to 4,096 entries and its second up to 40,960, and a list that is made up to 4,096. Each case has one line: its results, with a
 // space after each, or `refused`, where the function does not take the operands: each requirement is tested at run time before the call. A case number
 // that is none of these is refused too, and has no operands. The program ends at the end of the input, and where an operand is missing or cannot be read.
+#![tactic(auto)]
+
 mod answer;
 mod case;
 mod guard;
@@ -28,29 +30,47 @@ mod list;
 mod number;
 mod print;
 
+use std::io::{Read, Write};
+
 // The most cases. A proved loop has to end, and nothing says that the input does.
 const MOST: usize = 65536;
 
 // Reads and answers the cases. Returns how many bytes of `text` are filled.
-fn run(block: &mut [u8], left: &mut [i64], right: &mut [i64], text: &mut [u8]) -> usize {
+fn run<R: Read, W: Write>(
+    input: &mut R,
+    output: &mut W,
+    block: &mut [u8],
+    left: &mut [i64],
+    right: &mut [i64],
+    text: &mut [u8],
+) -> usize {
     let mut cursor = stream::start();
     let mut at = 0;
     for _ in 0..MOST {
-        let read = case::read(block, cursor, left, right);
+        let read = case::read(input, block, cursor, left, right);
         if !read.whole {
             return at;
         }
         cursor = read.cursor;
-        at = answer::answer(read, left, right, text, at);
+        at = answer::answer(output, read, left, right, text, at);
     }
     at
 }
 
-fn main() {
+fn main(rt: HostRuntime) {
+    let mut input = rt.stdin();
+    let mut output = rt.stdout();
     let mut block = [0u8; 4096];
     let mut left = [0i64; 4096];
     let mut right = [0i64; 40960];
     let mut text = [0u8; 65536];
-    let at = run(&mut block, &mut left, &mut right, &mut text);
-    stream::flush(&mut text, at);
+    let at = run(
+        &mut input,
+        &mut output,
+        &mut block,
+        &mut left,
+        &mut right,
+        &mut text,
+    );
+    stream::flush(&mut output, &mut text, at);
 }

@@ -7,6 +7,7 @@ use crate::lending;
 use calls::read::{MIDDLE, WIRES};
 use calls::{lent, print};
 use refusal::Refusal;
+use std::io::Write;
 
 // Calls 17 and 18 have their gates in one list, as records, calls 12 and 13 in three.
 fn is_recorded(call: &[i64]) -> bool {
@@ -61,21 +62,27 @@ fn planned(call: &[i64], bounds: &mut [u32]) -> Refusal {
 }
 
 // Plans in `bounds`; puts the answer and `bounds`.
-fn put_planned(call: &[i64], text: &mut [u8], at: usize, bounds: &mut [u32]) -> usize
+fn put_planned<W: Write>(
+    output: &mut W,
+    call: &[i64],
+    text: &mut [u8],
+    at: usize,
+    bounds: &mut [u32],
+) -> usize
     ensures { Placed result text.old text.new }
 {
     let answer = planned(call, bounds);
-    let to = print::refusal(text, at, answer);
-    print::words(text, to, bounds)
+    let to = print::refusal(output, text, at, answer);
+    print::words(output, text, to, bounds)
 }
 
 // Calls 12 and 17: a parameter set, the number of inputs, the gates, and the bounds as found.
-pub fn plan(call: &[i64], text: &mut [u8], at: usize) -> usize
+pub fn plan<W: Write>(output: &mut W, call: &[i64], text: &mut [u8], at: usize) -> usize
     ensures { Placed result text.old text.new }
 {
     let mut bounds = [0u32; WIRES];
     let b = lent::words(call, past_gates(call), &mut bounds);
-    put_planned(call, text, at, &mut bounds[0..b])
+    put_planned(output, call, text, at, &mut bounds[0..b])
 }
 
 // Evaluates, with the gates in three lists.
@@ -141,7 +148,8 @@ fn evaluated(
 }
 
 // Evaluates in `wires`, `bounds` and `scratch`; puts the answer and the three of them.
-fn put_evaluated(
+fn put_evaluated<W: Write>(
+    output: &mut W,
     call: &[i64],
     text: &mut [u8],
     at: usize,
@@ -153,15 +161,21 @@ fn put_evaluated(
     ensures { Placed result text.old text.new }
 {
     let answer = evaluated(call, wires, bounds, key, scratch);
-    let to = print::refusal(text, at, answer);
-    let after = print::entries(text, to, wires);
-    let end = print::words(text, after, bounds);
-    print::entries(text, end, scratch)
+    let to = print::refusal(output, text, at, answer);
+    let after = print::entries(output, text, to, wires);
+    let end = print::words(output, text, after, bounds);
+    print::entries(output, text, end, scratch)
 }
 
 // Calls 13 and 18: as calls 12 and 17, with the wires as found before the bounds, and a switching key
 // and scratch after them. The wires stand in a buffer that is lent.
-pub fn evaluate(call: &[i64], text: &mut [u8], at: usize, wires: &mut [i64]) -> usize
+pub fn evaluate<W: Write>(
+    output: &mut W,
+    call: &[i64],
+    text: &mut [u8],
+    at: usize,
+    wires: &mut [i64],
+) -> usize
     ensures placed { Placed result text.old text.new }
     ensures wires_len_unchanged { length wires.new ≡ length wires.old }
 {
@@ -175,6 +189,7 @@ pub fn evaluate(call: &[i64], text: &mut [u8], at: usize, wires: &mut [i64]) -> 
     let b = lent::words(call, at_bounds, &mut bounds);
     let s = lent::buffer(call, lent::past(call, at_key), &mut scratch);
     put_evaluated(
+        output,
         call,
         text,
         at,

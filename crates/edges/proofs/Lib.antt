@@ -1,2 +1,0 @@
--- Laws that several proofs of the crate cite.
-pub mod Ranges

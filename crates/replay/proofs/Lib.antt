@@ -1,2 +1,0 @@
-pub mod Front
-pub mod Gates
