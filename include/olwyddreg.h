@@ -1,6 +1,6 @@
 /* Olwyddreg from C: a circuit file is checked and planned before a ciphertext moves.
 
-   Link with libhost.a, which `rt staticlib host` makes. It is x86-64 code and needs no other library.
+   Link with libhost.a, which `rt lib --cpu x86-64` makes in crates/host, as out/libhost.a. It is x86-64 code and needs no other library.
 
    A circuit file is the bytes that document 01 lays out (docs/PAPER.md): 23 bytes of head, then 5 a gate. The noise of each wire has a tracked
    bound; a circuit is taken only where four times the bound of every gate is less than the modulus q.

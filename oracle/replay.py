@@ -31,7 +31,7 @@ from replay_format import END, answered, line_of, spoken, written
 from replay_tally import Tally
 
 ROOT = Path(__file__).resolve().parent.parent
-PROGRAM = ROOT / "target" / "bin" / "replay"
+PROGRAM = ROOT / "crates" / "replay" / "out" / "replay"
 PART = 500        # calls that the program is given at a time
 PROGRESS = 5000   # calls between two lines of progress
 

@@ -15,8 +15,8 @@ other (left for right, c for d), or one of two like fields, exchanges two neighb
 row of a refusal list the number of the row beside it. Comments, contracts and declarations are left alone. Each edit is tried by itself, over what is kept of the last check, so
 that only what it touches is proved again. It is refused, or accepted, or does not compile and says nothing. One that is accepted is tried from nothing.
 
-A wrong definition is tried on the crates of definitions and theorems alone, so that what refuses it is a figure, a law or a theorem, and never the code,
-which would be as wrong.
+A wrong definition is tried on the crates of definitions and theorems alone, and without their functions, so that what refuses it is a figure, a law or a
+theorem, and never the code, which would be as wrong.
 """
 import argparse
 import collections
@@ -41,8 +41,14 @@ Tried = collections.namedtuple("Tried", "crate file line name old new verdict by
 # ---- trying
 
 def said(folder, *words):
+    """Whether a command of `rt` has proved all that it was given, and what it printed."""
     run = subprocess.run(["rt", *words], cwd=folder, stdout=subprocess.PIPE, stderr=subprocess.STDOUT, text=True, check=False)
-    return run.stdout
+    return run.returncode == 0, run.stdout
+
+
+def is_refused(output):
+    """Whether the last crate that was checked was read and not proved, be it for a limit of the prover."""
+    return "logic=not-proved" in [line.split(" ")[0] for line in output.splitlines() if line.startswith("logic=")][-1:] or "antt ran out of" in output
 
 
 class Code:
@@ -52,7 +58,7 @@ class Code:
 
     @staticmethod
     def copied(folder):
-        shutil.copytree(ROOT, folder, ignore=shutil.ignore_patterns(".git", "must-fail"))
+        shutil.copytree(ROOT, folder, ignore=shutil.ignore_patterns(".git", "must-fail", "out", "target"))
 
     @staticmethod
     def edits(folder, crate):
@@ -61,23 +67,23 @@ class Code:
     @staticmethod
     def is_ready(folder, crate):
         """Whether the crate as it stands is proved, and kept for the edits."""
-        said(folder, "check", crate)
-        return "logic=proved" in said(folder, "dev", crate)
+        return said(folder / "crates" / crate, "check")[0]
 
     @staticmethod
     def verdict(folder, edit):
         """The prover's verdict, and the first function that it could not prove."""
-        output = said(folder, "dev", edit.crate)
-        if "logic=proved" in output:
-            output = said(folder, "check", edit.crate)
-        if "logic=not-proved" in output:
-            unproved = re.search(r"^fn (\S+): not proved$", output, re.M)
-            return REFUSED, unproved[1] if unproved else ""
-        return (ACCEPTED if "logic=proved" in output else BAD), ""
+        place = folder / "crates" / edit.crate
+        proved, output = said(place, "check")
+        if proved:
+            proved, output = said(place, "verdict")
+        if proved:
+            return ACCEPTED, ""
+        unproved = re.search(r"^fn (\S+): (?:not proved|no proof)(?!: it calls)", output, re.M)
+        return (REFUSED, unproved[1] if unproved else "") if is_refused(output) else (BAD, "")
 
 
 class Definitions:
-    """Edits of definitions, each tried on the crates of definitions and theorems, without any code."""
+    """Edits of definitions, each tried on the crates of definitions and theorems, without any function."""
 
     crates = THEOREMS
 
@@ -85,7 +91,12 @@ class Definitions:
     def copied(folder):
         """A copy of those crates."""
         for crate in THEOREMS:
-            shutil.copytree(ROOT / "crates" / crate, folder / "crates" / crate, ignore=shutil.ignore_patterns("must-fail"))
+            shutil.copytree(ROOT / "crates" / crate, folder / "crates" / crate, ignore=shutil.ignore_patterns("must-fail", "out"))
+        for path in folder.glob("crates/*/src/*.rt"):
+            path.write_text(audit_edits.without_functions(path.read_text(encoding="utf-8")), encoding="utf-8")
+        for path in folder.glob("crates/*/proofs/*"):
+            if path.is_dir():
+                shutil.rmtree(path)
         shutil.copytree(ROOT / "docs", folder / "docs")
         shutil.copytree(ROOT / "tools", folder / "tools")
         leans = dict(line.split(":") for line in (ROOT / "crates.txt").read_text().splitlines() if ":" in line and line[0] != "#")
@@ -101,19 +112,25 @@ class Definitions:
     @staticmethod
     def is_ready(folder, crate):
         """Whether all crates as they stand are proved."""
-        return "rt: ok" in said(folder, "check")
+        return said(folder, "all", "check")[0]
 
     @staticmethod
     def verdict(folder, edit):
-        """The verdict, and every declaration that no longer holds in the first crate in which one does not."""
-        output = said(folder, "check")
-        if "rt: ok" in output:
+        """The verdict, and every declaration that no longer holds in the first crates in which one does not, but for those that depend on such a one."""
+        proved, output = said(folder, "all", "check")
+        if proved:
             return ACCEPTED, ""
-        found = re.findall(r"^\S*/crates/(\w+)/(specs|proofs)/(\S+)\.antt:\d+:\d+: error: `([^`]+)`", output, re.M)
-        broken = dict.fromkeys(f"{crate}/{file}: {name}" for crate, folder, file, name in found if folder == "specs")
-        if not found or f"{edit.crate}/{edit.file[:-5]}: {edit.name}" in broken:
+        found = [(crate, *fault) for crate, part in parts(output) for fault in re.findall(r"^\./(?:specs|proofs)/(\S+)\.antt:\d+:\d+: error: `([^`]+)`", part, re.M)]
+        broken = dict.fromkeys(f"{crate}/{file}: {name}" for crate, file, name in found)
+        if not broken or f"{edit.crate}/{edit.file[:-5]}: {edit.name}" in broken:
             return BAD, ""
-        return (REFUSED if broken else ACCEPTED), "; ".join(broken)
+        return REFUSED, "; ".join(broken)
+
+
+def parts(output):
+    """What was said of each crate."""
+    heads = re.split(r"^== (\w+)$", output, flags=re.M)
+    return zip(heads[1::2], heads[2::2])
 
 
 def tried(kind, folder, edit):

@@ -8,8 +8,8 @@ NUMBER = re.compile(r"(?<![\w-])(?<!\w\.)\d+(?=(?:u8|u32|u64|i64|usize)?\b)(?!\.
 WORD = re.compile(r"(?<![\w.:'])[A-Za-z]\w*\b(?![:(!'])")
 ARGUMENTS = re.compile(r"\b([a-z]\w*), ([a-z]\w*)(?=[,)]| as )")
 LETTER = re.compile(r"(?<=\bb['\"])\w")
-ROW = re.compile(r"(?:return |row[ (]|rowOf )(\d+)")
-FIELD = re.compile(r"(?<= \.)[a-z][\w-]*")
+ROW = re.compile(r"(?:return |row[ (]|row_of )(\d+)")
+FIELD = re.compile(r"(?<=[\w')]\.)[a-z]\w*")
 
 
 class Language:
@@ -29,19 +29,19 @@ CODE = Language(
     r"!(?=[\w(])",
 )
 LOGIC = Language(
-    {"+": "-", "-": "+", "*": "+", "/": "%", "%": "/", "+ℤ": "-ℤ", "-ℤ": "+ℤ", "*ℤ": "+ℤ", "&&": "||", "||": "&&", "leb": "ltb", "ltb": "leb", "leZ": "ltZ",
-     "ltZ": "leZ", "take": "drop", "drop": "take", "≤": "<", "<": "≤"},
+    {"+": "-", "-": "+", "*": "+", "/": "%", "%": "/", "+ℤ": "-ℤ", "-ℤ": "+ℤ", "*ℤ": "+ℤ", "&&": "||", "||": "&&", "leb": "ltb", "ltb": "leb", "le_z": "lt_z",
+     "lt_z": "le_z", "take": "drop", "drop": "take", "≤": "<", "<": "≤"},
     (("B1", "B2"), ("c", "d"), ("x", "y"), ("b1", "b2"), ("left", "right"), ("L", "F"), ("masks", "f"), ("true", "false"), ("s", "c"), ("n", "q"), ("l", "f"),
      ("q", "b"), ("ws", "gs"), ("inputs", "gates")),
-    (("left", "right"), ("left-bound", "right-bound"), ("n", "q"), ("l", "f"), ("e", "f"), ("masks", "errors"), ("key", "masks"), ("key", "mask"),
+    (("left", "right"), ("left_bound", "right_bound"), ("n", "q"), ("l", "f"), ("e", "f"), ("masks", "errors"), ("key", "masks"), ("key", "mask"),
      ("key", "ciphertext"), ("key", "wires"), ("key", "scratch"), ("wires", "scratch"), ("inputs", "count"), ("number", "place"), ("kind", "left")),
     r"\bnot (?=\()",
 )
 
 
 # names of one module each: a file that imports one of a pair is made to import both, so that the edit means something
-PARTNERS = (("leb", "ltb"), ("leZ", "ltZ"), ("take", "drop"), ("_*_", "_+_"), ("_+_", "_-_"), ("_/_", "_%_"), ("_*ℤ_", "_+ℤ_"), ("_+ℤ_", "_-ℤ_"), ("_&&_", "_||_"),
-            ("true", "false"), ("_≤_", "_<_"))
+PARTNERS = (("leb", "ltb"), ("le_z", "lt_z"), ("take", "drop"), ("◌*◌", "◌+◌"), ("◌+◌", "◌-◌"), ("◌/◌", "◌%◌"), ("◌*ℤ◌", "◌+ℤ◌"), ("◌+ℤ◌", "◌-ℤ◌"), ("◌&&◌", "◌||◌"),
+            ("true", "false"), ("◌≤◌", "◌<◌"))
 
 
 class Body:
@@ -50,7 +50,7 @@ class Body:
     def __init__(self, name, first, lines):
         self.name, self.first, self.lines = name, first, lines
         self.words, self.fields = set(WORD.findall("\n".join(lines))), set(FIELD.findall("\n".join(lines)))
-        self.rows = [n for line in lines for n in ROW.findall(line)] if name.endswith(("number", "Rows")) else []
+        self.rows = [n for line in lines for n in ROW.findall(line)] if name.endswith(("number", "_rows")) else []
 
 
 def code_bodies(text):
@@ -77,15 +77,34 @@ def definition_bodies(text, names):
             yield Body(head[1], start, lines[start:close])
 
 
+def without_functions(text):
+    """The text of a source file without its functions."""
+    kept, lines = [], iter(text.splitlines())
+    for line in lines:
+        head = re.match(r"( *)(?:pub )?(?:extern \"C\" )?fn ", line)
+        if head:
+            while kept and kept[-1].strip().startswith(("//", "#[")):
+                kept.pop()
+            while line != head[1] + "}":
+                line = next(lines)
+        else:
+            kept.append(line)
+    return "".join(f"{line}\n" for line in kept)
+
+
 def with_partners(text):
-    """The text of a file of definitions, in which each list of imports has the partners of its names."""
+    """The text of a file of definitions, in which the imports have the partners of their names."""
+    imports = r"^(use \S+\.)\{([^}]*)\}"
+    known = {name for _, names in re.findall(imports, text, re.M) for name in names.split(", ")}
+
     def both(found):
         names = found[2].split(", ")
         for pair in PARTNERS:
             if set(pair) & set(names):
-                names += [name for name in pair if name not in names]
+                names += [name for name in pair if name not in known]
+                known.update(pair)
         return f"{found[1]}{{{', '.join(names)}}}"
-    return re.sub(r"^(use \S+\.)\{([^}]*)\}", both, text, flags=re.M)
+    return re.sub(imports, both, text, flags=re.M)
 
 
 def replaced(line, found, new):
@@ -165,8 +184,10 @@ def by_hand(root, crate):
         place, name, old, new = line.split("\t")
         if place.startswith(crate + "/"):
             path = root / "crates" / crate / "specs" / f"{place.split('/')[1]}.antt"
-            body = next(definition_bodies(path.read_text(encoding="utf-8"), {name}))
-            at, line = next((at, line) for at, line in enumerate(body.lines, body.first) if old in line)
+            bodies = definition_bodies(path.read_text(encoding="utf-8"), {name})
+            at, line = next(((at, line) for body in bodies for at, line in enumerate(body.lines, body.first) if old in line), (0, ""))
+            if not line:
+                raise SystemExit(f"audit: {place} has no {name} with the text {old}")
             yield Edit(crate, "specs", path.name, at, name, line.strip(), line.strip().replace(old, new))
 
 

@@ -4,13 +4,13 @@ and how long each crate's check took in two logs.
 
     tools/changes.py OLD NEW [OLD-LOG NEW-LOG]
 
-A log is what `rt prove` or `rt ci` printed: its lines 'rt: NAME proved (N s)' are read. Comments, line breaks and the order of a file are
-nothing that counts. What counts as what:
+A log is what `rt ci` of the older kit, rattle-kit-5, printed: its lines 'rt: NAME proved (N s)' are read. Today's `rt` tells no times. Comments, line breaks and
+the order of a file are nothing that counts. What counts as what:
 
 - a definition: a declaration in specs that is `abbrev`, `unfoldable`, a `record` or `data`, with all its text;
 - a promise: what a function in Rattle is given and returns, with its `requires` and `ensures`;
 - a law: the statement of any other declaration in specs, so that a theorem that is proved in another way has stayed;
-- a proof: how such a law is proved, the file of a function's proof, and each declaration of the files beside those.
+- a proof: how such a law is proved, the files of a function's proof as one, and each declaration of the files beside those.
 
 Each has stayed, or it follows (it differs in nothing but names that were renamed), was moved to another file with the same text, was
 renamed in its file with the same text but for its own name, was changed, added or removed. Imports count for nothing.
@@ -87,7 +87,7 @@ def of_code(crate, file, text):
 
 
 def of_proofs(crate, file, text):
-    if file.endswith("/Proof.antt"):
+    if re.search(r"/(Answers|Invariants|Proof)\.antt$", file):
         bare = re.sub(r"(?m)(?:^|(?<= ))--(?: .*)?$|^(?:ghost )?use .*$", "", text)
         yield "proofs", f"{crate}::{'::'.join(file.split('/')[1:-2])}".removesuffix("::"), file.split("/")[-2], flat(bare)
     else:

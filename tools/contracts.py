@@ -4,8 +4,18 @@ from typing import NamedTuple
 
 from paper import CRATES
 
-FUNCTION = re.compile(
-    r'^ *(pub )?(?:extern "C" )?fn (\w+)\(([^)]*)\)(?: -> ([^\n{]+?))?(?: \{|((?:\n +(?:requires|ensures)\b[^\n]*)*)\n *\{)$', re.M)
+HEAD = r'^ *(pub )?(?:extern "C" )?fn (\w+)(?:<[^>]*>)?\(([^)]*)\)(?: -> ([^\n{]+?))?'
+CLAUSE = r"^ +(requires|ensures)(?: (\w+))? \{ (.*) \}$"
+FUNCTION = re.compile(HEAD + r"(?: \{|((?:\n +(?:requires|ensures)\b[^\n]*)*)\n *\{)$", re.M)
+
+
+class Clause(NamedTuple):
+    name: str       # or nothing
+    says: str
+
+    def parts(self):
+        """What it says, each part of a conjunction by itself."""
+        return [bare(part) for part in split(self.says, " × ")]
 
 
 class Function(NamedTuple):
@@ -20,33 +30,33 @@ class Function(NamedTuple):
 
     def is_in_root(self):
         """Whether its path has no module: it stands in the crate's root, or the root passes it on."""
-        return self.file in ("lib", "main") or f"\npub use {self.file}::{self.name};" in root_of(self.crate)
+        return self.file in ("lib", "main") or self.name in passed_on(self.crate, self.file)
 
     def is_reached(self):
         """Whether another crate can call it: public, in a library's root or in a public module of it, or passed on by the root."""
         return self.public and self.file != "main" and (self.is_in_root() or f"\npub mod {self.file};" in root_of(self.crate))
 
     def names_its_answer(self):
-        """Whether a line of its promise speaks of what it returns."""
-        return any(re.search(r"λ (\w+)\..*(?<!\w)\1(?!\w)", line) for line in self.ensures)
+        """Whether a clause of its promise speaks of what it returns."""
+        return any(re.search(r"(?<![\w.])result(?!\w)", clause.says) for clause in self.ensures)
 
     def promise(self):
         """The record of a promise that its contract cites, with what it is given, or nothing."""
-        for line in self.ensures:
-            found = re.search(r"⌜ (\w+) (.*) ⌝", line)
-            if found and found[1] in PROMISES:
-                return found[1], arguments(found[2])
+        for clause in self.ensures:
+            name, *given = [bare(word) for word in split(clause.says, " ")]
+            if name in PROMISES:
+                return name, given
         return None, []
 
     def definition_of(self, what):
-        """The definition that its promise equates with what it returns, `r`, or with a buffer at exit."""
+        """The definition that its promise equates with what it returns, `result`, or with a buffer at exit, as `out.new`."""
         name, given = self.promise()
         if name:
             parameters, fields = PROMISES[name]
             names = [parameter for parameter, argument in zip(parameters, given) if argument == what]
             return next((fields[parameter] for parameter in names if parameter in fields), None)
-        found = re.search(rf"⌜ {re.escape(what)} ≡ ([\w-]+)", "\n".join(self.ensures))
-        return found and found[1]
+        parts = [part for clause in self.ensures for part in clause.parts()]
+        return next((part.split()[2] for part in parts if part.startswith(f"{what} ≡ ")), None)
 
 
 def root_of(crate):
@@ -55,15 +65,26 @@ def root_of(crate):
     return path.read_text(encoding="utf-8") if path.exists() else ""
 
 
-def arguments(text):
-    """The arguments of an application, each without the parentheses around it."""
+def passed_on(crate, module):
+    """The names that a library's root passes on from a module of it."""
+    groups = re.findall(rf"^pub use {module}::(?:\{{([^}}]*)\}}|(\w+));", root_of(crate), re.M)
+    return {name.strip() for some, one in groups for name in (some or one).split(",")}
+
+
+def split(text, mark):
+    """The text between the marks that stand outside its parentheses."""
     found, depth, start = [], 0, 0
-    for i, c in enumerate(text + " "):
-        depth += {"(": 1, ")": -1}.get(c, 0)
-        if c == " " and not depth:
+    for i in range(len(text)):
+        depth += {"(": 1, ")": -1}.get(text[i], 0)
+        if not depth and i >= start and text.startswith(mark, i):
             found.append(text[start:i])
-            start = i + 1
-    return [word[1:-1] if word.startswith("(") else word for word in found if word]
+            start = i + len(mark)
+    return [part for part in [*found, text[start:]] if part]
+
+
+def bare(text):
+    """The text without the parentheses around it."""
+    return text[1:-1] if text.startswith("(") and split(text, ")")[0] == text[:-1] else text
 
 
 def promises():
@@ -84,10 +105,11 @@ def functions():
         found = FUNCTION.findall(text)
         assert len(found) == len(re.findall(r"^ *(?:pub )?(?:extern .*)?fn ", text, re.M)), f"{path}: a function that is not read"
         for public, name, lent, returned, contract in found:
-            lines = [line.strip() for line in contract.splitlines()]
+            clauses = re.findall(CLAUSE, contract, re.M)
+            assert len(clauses) == len(contract.split("\n")) - 1, f"{path}: a clause of {name} that is not read"
+            requires, ensures = ([Clause(*clause[1:]) for clause in clauses if clause[0] == kind] for kind in ("requires", "ensures"))
             yield Function(
-                path.parent.parent.name, path.stem, bool(public), name, re.findall(r"(\w+): &mut", lent), bool(returned),
-                [line for line in lines if line.startswith("requires")], [line for line in lines if line.startswith("ensures")])
+                path.parent.parent.name, path.stem, bool(public), name, re.findall(r"(\w+): &mut", lent), bool(returned), requires, ensures)
 
 
 ALL = list(functions())

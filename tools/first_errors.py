@@ -1,60 +1,56 @@
 #!/usr/bin/env python3
-"""The first error of each must-fail edit that was tried, from the logs under target/must-fail/: what refused it.
+"""What refused each must-fail edit, from what `rt ci` or `rt must-fail` said of it: the first error.
 
-    python3 tools/first_errors.py [--tried FOLDER] [CRATE...]
+    python3 tools/first_errors.py LOG [CRATE...]
+    rt must-fail CRATE | python3 tools/first_errors.py - CRATE
 
-The edits were tried in this repository, or in the one in FOLDER that has copies of the crates.
-
-An edit is to be refused for a fact: what a function answers, a loop's invariant, a figure, a law. One that names something that is not in scope, or after
-which a definition has no type, is refused too, and shows nothing. Exit status 1 where the first error of an edit is of that kind: in its own line, or of a
-name; and where an edit was not tried.
+An edit is to be refused for a fact: what a function answers, a loop's invariant, a figure, a law. `rt` counts as refused also an edit after which a proof file
+names something that is not in scope, and one for which the prover met a limit of its own: these show nothing of what is promised. Nor does an edit of a
+definition after which that definition has no type: its first error is in a line of the edit. In code that is a fact, since the compiler has passed the line.
+Exit status 1 where the first error of an edit is of such a kind, or where an edit was not tried.
 """
 import pathlib
 import re
 import sys
 
 ROOT = pathlib.Path(__file__).resolve().parent.parent
+SAID = re.compile(r"^rt: must-fail (\w+)/(\S+)\.edit: (.*)$", re.M)
 # An error; or, of a function that has no proof file, what the prover's own search could not show.
-ERROR = re.compile(r"^(?:|note: what antt said of a `search` in the proof that rattle made: )\S*/((?:specs|proofs|src)/\S+?:\d+):\d+: (?:error: |(?=`))(.*)$", re.M)
+FACT = re.compile(r"refused, as it must be: (?:note: )?(?:\./)?((?:specs|proofs|src)/\S+?:\d+):\d+: (?:error: )?(.*)")
 NO_NAME = re.compile(r"not in scope|no module")
-WIDTH = 150
-
-
-def first_error(edit, tried):
-    """Where the first error stands and what it says, or None where the edit was not tried."""
-    log = tried / "target" / "must-fail" / edit.parent.parent.name / edit.stem / ".log"
-    found = log.exists() and ERROR.search(log.read_text(encoding="utf-8", errors="replace"))
-    return found and (found[1], found[2])
 
 
 def edited_lines(edit):
-    """The places, FILE:LINE, that the edit changes."""
+    """The places, FILE:LINE, of definitions and laws that the edit changes."""
     file = ""
     for line in edit.read_text(encoding="utf-8").splitlines():
         name, _, text = line.partition(": ")
         if name == "file":
             file = text
-        elif name == "old":
+        elif name == "old" and not file.startswith("src/"):
             before = (edit.parent.parent / file).read_text(encoding="utf-8").partition(text)[0]
             yield f"{file}:{before.count(chr(10)) + 1}"
 
 
+def is_fact(edit, said):
+    """Whether what was said of the edit tells a fact that no longer holds."""
+    found = FACT.fullmatch(said)
+    return bool(found) and not NO_NAME.search(found[2]) and found[1] not in edited_lines(edit)
+
+
 def main():
-    wanted = sys.argv[1:]
-    tried = ROOT
-    if wanted[:1] == ["--tried"]:
-        tried = pathlib.Path(wanted[1])
-        wanted = wanted[2:]
+    log, *wanted = sys.argv[1:]
+    text = sys.stdin.read() if log == "-" else pathlib.Path(log).read_text(encoding="utf-8", errors="replace")
+    said = {(crate, name): what for crate, name, what in SAID.findall(text)}
+    edits = [edit for edit in sorted((ROOT / "crates").glob("*/must-fail/*.edit")) if not wanted or edit.parent.parent.name in wanted]
     faults = 0
-    for edit in sorted((ROOT / "crates").glob("*/must-fail/*.edit")):
+    for edit in edits:
         crate = edit.parent.parent.name
-        if wanted and crate not in wanted:
-            continue
-        error = first_error(edit, tried)
-        bad = not error or NO_NAME.search(error[1]) or error[0] in edited_lines(edit)
-        faults += bool(bad)
-        told = f"{error[0]}  {error[1][:WIDTH]}" if error else "was not tried"
-        print(f"{'NO FACT  ' if bad else ''}{crate}/{edit.stem}  {told}")
+        what = said.get((crate, edit.stem), "was not tried")
+        if not is_fact(edit, what):
+            faults += 1
+            print(f"NO FACT  {crate}/{edit.stem}: {what}")
+    print(f"first errors: {len(edits)} must-fail edits, {faults} of them refused for no fact")
     return 1 if faults else 0
 
 

@@ -20,8 +20,9 @@ APART = ("stream", "calls", "answers", "edges", "replay", "loops", "bench")
 def crates():
     """What each crate of the engine leans on, of the others."""
     lines = [line.partition(":") for line in (ROOT / "crates.txt").read_text(encoding="utf-8").splitlines() if line and line[0] != "#"]
-    names = {name for name, _, _ in lines} - set(APART)
-    return {name: [d for d in deps.split() if d in names] for name, _, deps in lines if name in names}
+    leans = {head.split()[0]: deps.split() for head, _, deps in lines}
+    names = set(leans) - set(APART)
+    return {name: [d for d in deps if d in names] for name, deps in leans.items() if name in names}
 
 
 def kind(name):

@@ -2,7 +2,8 @@
 """Tries the edits of crates/NAME/must-not-compile/*.edit: the compiler must refuse each, before any proof is looked at.
 
 An edit has the form of a must-fail edit (lines `file:`, `old:`, `new:`), and a line `error:` with words that the refusal must
-have. Each is applied to a copy of the repository's crates, with the libraries that are proved already. Exit status 1 where one is not refused so.
+have. Each is applied to a copy of the repository's crates, outside the checkout, in which no function is named to be proved (`rt check --only ""`): what does not
+compile is refused within a second or two. Exit status 1 where one is not refused so.
 """
 import glob
 import os
@@ -35,7 +36,7 @@ def refused(path, room):
         return False
     with open(target, "w", encoding="utf-8") as f:
         f.write(text.replace(edit["old"], edit["new"]))
-    run = subprocess.run(["rt", "dev", crate], cwd=room, capture_output=True, text=True)
+    run = subprocess.run(["rt", "check", "--only", ""], cwd=os.path.join(room, "crates", crate), capture_output=True, text=True)
     with open(target, "w", encoding="utf-8") as f:
         f.write(text)
     said = run.stdout + run.stderr
@@ -45,11 +46,8 @@ def refused(path, room):
 def main():
     room = tempfile.mkdtemp()
     try:
-        shutil.copytree(os.path.join(ROOT, "crates"), os.path.join(room, "crates"))
+        shutil.copytree(os.path.join(ROOT, "crates"), os.path.join(room, "crates"), ignore=shutil.ignore_patterns("out"))
         shutil.copy(os.path.join(ROOT, "crates.txt"), room)
-        for built in ("rlib", "stamp"):
-            if os.path.isdir(os.path.join(ROOT, "target", built)):
-                shutil.copytree(os.path.join(ROOT, "target", built), os.path.join(room, "target", built))
         edits = sorted(glob.glob(os.path.join(ROOT, "crates", "*", "must-not-compile", "*.edit")))
         failed = 0
         for path in edits:

@@ -8,8 +8,8 @@ promises, which may name what is in any crate and what the scripts of the tests 
 - a file, `crate/File`, `crate/specs/File.antt`, or a must-fail edit, `crate/edit`: it is there;
 - a module of the logic, `lib.IntN`: a file of the crates imports from it;
 - text: each word of it that looks like a name, from two letters on, is declared in the crate itself or in one that it leans on (a module, a
-  file, a function, a definition, a law, a field, a parameter or a local), or imported in the crate, or it is a crate, a word of the
-  languages, or a word of the same file or of the module that the file proves.
+  file, a function, a definition, a law, a set of rules, a clause, a field, a parameter or a local), or imported in the crate, or it is a crate,
+  a word of the languages, or a word of the same file or of the module that the file proves.
 
     tools/names.py           check
     tools/names.py --list    print the names that were found, one line each
@@ -28,19 +28,21 @@ FILE = re.compile(r"(?:\w+/)+\w+(?:\.\w+)?|\w+\.(?:antt|rt|py|md|txt)")
 LANGUAGE = {"requires", "ensures", "unfolding", "omega"}
 PAGES = ("docs/DESIGN.md", "docs/DECISIONS.md", "docs/DEFINITIONS.md", "docs/PROMISES.md")
 FORM = re.compile(r"crate(::|/).*|crates/(crate|NAME)/.*")  # how such a name is written, and none itself
-MODULE = re.compile(r"[\w·]+(?:\.\w+)+")
+MODULE = re.compile(r"\w+(?:\.\+?\w+)+")
 IMPORT = re.compile(r"^(?:ghost )?use [^;{]*\.\{([^}]*)\}", re.M)
-LOGIC = (  # declarations, fields and locals; parameters; bound names
+LOGIC = (  # declarations, fields and locals; sets of rules; parameters; bound names
     re.compile(r"^ *(?:(?:abbrev|unfoldable|opaque|let) )*(?:pub )?(?:(?:record|data) )?([^\s:(){}=]+)(?: [({].*?[)}])* :(?= |$)", re.M),
-    re.compile(r"[({]([\w' -]+) :"), re.compile(r"λ ([\w' ]+)\."),
+    re.compile(r"^ *(?:pub )?ruleset (\S+) =", re.M), re.compile(r"[({]([\w' -]+) :"), re.compile(r"λ ([\w' ]+)\."),
 )
-CODE = (  # declarations and locals; fields; parameters
-    re.compile(r"\b(?:fn|struct|enum|const|mod|let mut|let) (\w+)"), re.compile(r"^ +(?:pub )?(\w+):", re.M), re.compile(r"[(,] ?(\w+): "),
+CODE = (  # declarations and locals; clauses; fields; parameters
+    re.compile(r"\b(?:fn|struct|enum|const|mod|let mut|let) (\w+)"), re.compile(r"^ +(?:requires|ensures) (\w+) \{", re.M),
+    re.compile(r"^ +(?:pub )?(\w+):", re.M), re.compile(r"[(,] ?(\w+): "),
 )
 
 
 def sources(crate):
-    return sorted(path for path in (CRATES / crate).rglob("*") if path.suffix in MARK)
+    """The crate's files, without what the check made."""
+    return sorted(path for path in (CRATES / crate).rglob("*") if path.suffix in MARK and path.relative_to(CRATES).parts[1] != "out")
 
 
 def parted(path):
@@ -63,7 +65,7 @@ def parted(path):
 def leans():
     """Each crate with those that it leans on."""
     lines = (ROOT / "crates.txt").read_text(encoding="utf-8").splitlines()
-    return {line.partition(":")[0]: line.partition(":")[2].split() for line in lines if ":" in line and not line.startswith("#")}
+    return {line.split(":")[0].split()[0]: line.partition(":")[2].split() for line in lines if ":" in line and not line.startswith("#")}
 
 
 def words(path):
@@ -85,6 +87,7 @@ def local(crate):
 def known(crate):
     """The words that any comment of a crate may use as a name."""
     imported = {word for path in sources(crate) for group in IMPORT.findall(parted(path)[0]) for word in WORD.findall(group)}
+    imported |= {name for path in sources(crate) if path.suffix == ".rt" for _, _, name in uses(path)}
     near = {crate, *leans()[crate]} & set(leans())
     return set(leans()) | LANGUAGE | imported | {word for name in near for word in local(name)}
 
@@ -98,6 +101,12 @@ def beside(crate, path):
     return words(path) | words(proved)
 
 
+def uses(path):
+    """What a source file uses: whether it passes it on, the path before it, and its name."""
+    for marks, before, one, group in re.findall(r"^(pub )?use (\w+(?:::\w+)*)::(?:(\w+)|\{([^}]*)\});", parted(path)[0], re.M):
+        yield from ((marks, before, name) for name in re.findall(r"\w+", one or group))
+
+
 @functools.lru_cache(maxsize=None)
 def declared(crate):
     """The paths of a crate's functions, types, constants and modules: (module or type, name), with "" for the root."""
@@ -106,10 +115,10 @@ def declared(crate):
         module, owner = ("" if path.stem in ("lib", "main") else path.stem), ""
         found.add(("", module))
         for line in parted(path)[0].splitlines():
-            owner = next(iter(re.findall(r"^impl (\w+)", line)), "" if line.startswith("}") else owner)
+            owner = next(iter(re.findall(r"^impl(?:<.*?>)? (?:.* for )?(\w+)", line)), "" if line.startswith("}") else owner)
             for name in re.findall(r"^ *(?:pub )?(?:extern \"C\" )?(?:fn|struct|enum|const) (\w+)", line):
                 found |= {(owner or module, name), (module, name)}
-            found |= {("", name) for name in re.findall(r"^pub use [\w:]*?(\w+);", line)}
+        found |= {("", name) for marks, _, name in uses(path) if marks}
     return found
 
 
@@ -124,14 +133,14 @@ def is_path(crate, path):
     parts = path.split("::")
     if parts[0] in leans() and is_in(parts[0], parts[1:]) or is_in(crate, parts):
         return True
-    used = {use for source in sources(crate) for use in re.findall(rf"^use (\w+)::(?:\w+::)*{parts[0]};", parted(source)[0], re.M)}
+    used = {before.split("::")[0] for source in sources(crate) if source.suffix == ".rt" for _, before, name in uses(source) if name == parts[0]}
     return any(is_in(other, parts) for other in used & set(leans()))
 
 
 def is_file(crate, name):
     tail = name if re.search(r"\.\w+$", name) else f"{name}.*"
     places = (ROOT, CRATES, CRATES / crate, CRATES / crate / "specs", CRATES / crate / "proofs", CRATES / crate / "src")
-    if any(any(place.glob(tail)) or (place / name).exists() for place in places):
+    if any(any(place.glob(tail)) or (place / name).exists() for place in places) or any((CRATES / crate / "proofs").glob(f"**/{tail}")):
         return True
     head, _, rest = tail.partition("/")
     return head in leans() and any(any((CRATES / head / folder).glob(rest)) for folder in ("specs", "proofs", "src", "must-fail"))
@@ -141,7 +150,7 @@ def is_file(crate, name):
 def modules():
     """The modules of the logic that the crates import from."""
     files = [path for crate in leans() for path in sources(crate)]
-    return {module for path in files for module in re.findall(r"^(?:ghost )?use ([\w·.]+?)(?:\.\{| as |;|$)", parted(path)[0], re.M)}
+    return {module for path in files for module in re.findall(r"^(?:ghost )?use ([\w.+]+?)(?:\.\{| as |;|$)", parted(path)[0], re.M)}
 
 
 def unknown(crate, path, text):
@@ -166,9 +175,10 @@ def unknown_on_page(text):
 
 @functools.lru_cache(maxsize=None)
 def of_scripts():
-    """The words of the scripts."""
-    paths = [ROOT / "test", *(ROOT / "tools").iterdir(), *(ROOT / "bench").glob("*.py")]
-    return {word for path in paths if path.is_file() for word in WORD.findall(path.read_text(encoding="utf-8"))}
+    """The words of the scripts, but for the one that knows the older spelling."""
+    paths = [ROOT / "test", *(ROOT / "tools").glob("*.py"), *(ROOT / "tools").glob("*.sh"), *(ROOT / "bench").glob("*.py")]
+    paths.remove(ROOT / "tools" / "respell.py")
+    return {word for path in paths for word in WORD.findall(path.read_text(encoding="utf-8"))}
 
 
 def of_pages():

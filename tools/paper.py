@@ -176,18 +176,20 @@ def row_faults(page, sections, answer_faults):
 # ---- names
 
 def names(answer):
-    """(crate/File, name) for each name that an answer gives as `crate/File`: `name`, `name`, or after `crate/specs/File.antt`."""
-    for crate, file, group in re.findall(r"`(\w+)/(?:specs/)?(\w+)(?:\.antt)?`: ((?:`[^`]+`(?:, )?)+)", flat(answer)):
-        yield from ((f"{crate}/{file}", name) for name in re.findall(r"`([^`]+)`", group))
+    """(place, name) for each name that an answer gives as `crate/File`: `name`, `name`, as of specs/, or after `crate/proofs/File`,
+    or after the whole path, `crate/specs/File.antt`. A place is CRATE/FOLDER/FILE, or CRATE/src."""
+    for crate, folder, file, group in re.findall(r"`(\w+)/(?:(specs|proofs)/)?(\w+)(?:\.antt)?`: ((?:`[^`]+`(?:, )?)+)", flat(answer)):
+        place = f"{crate}/src" if file == "src" else f"{crate}/{folder or 'specs'}/{file}"
+        yield from ((place, name) for name in re.findall(r"`([^`]+)`", group))
 
 
 def declared(place, name):
-    """Whether `name` is declared in crates/CRATE/specs/FILE.antt, or as a type in crates/CRATE/src/lib.rt."""
-    crate, file = place.split("/")
+    """Whether `name` is declared in crates/CRATE/specs/FILE.antt or crates/CRATE/proofs/FILE.antt, or as a type in crates/CRATE/src/lib.rt."""
+    crate, _, file = place.partition("/")
     if file == "src":
         path, pattern = CRATES / crate / "src" / "lib.rt", rf"pub (struct|enum|fn) {re.escape(name)}\b"
     else:
-        path = CRATES / crate / "specs" / f"{file}.antt"
+        path = CRATES / crate / f"{file}.antt"
         pattern = rf"^\s*((abbrev|unfoldable) )*pub (record |data )?{re.escape(name)}( \{{[^}}]*\}})?( \(.*\))? :"
     return path.exists() and bool(re.search(pattern, path.read_text(encoding="utf-8"), re.M))
 

@@ -84,15 +84,15 @@ def edit_faults(page):
 def file_faults(page):
     yield from undeclared(page.partition(READING)[0])
     for path in re.findall(rf"`((?:{CRATE})/(?:specs|src|proofs)/[\w/.]+)`", page):
-        if not (CRATES / path).exists():
+        if not any((CRATES / f"{path}{suffix}").exists() for suffix in ("", ".antt")):
             yield f"names the file {path}, which is not there"
 
 
 def witness_faults(page):
-    specs = "\n".join(path.read_text(encoding="utf-8") for path in CRATES.glob("*/specs/*.antt"))
+    proved = "\n".join(path.read_text(encoding="utf-8") for folder in ("specs", "proofs") for path in CRATES.glob(f"*/{folder}/*.antt"))
     for group in WITNESS.findall(flat(page)):
         for name in re.findall(r"`([\w-]+)`", group):
-            if not re.search(rf"^pub {re.escape(name)} :", specs, re.M):
+            if not re.search(rf"^pub {re.escape(name)} :", proved, re.M):
                 yield f"names the witness {name}, which is not there"
 
 
@@ -100,7 +100,7 @@ def promise_faults(call, unique):
     """What a public call's promise lacks."""
     if call.requires:
         yield "has a requires"
-    for what in ["r"] * call.returns + [f"now ({buffer} .exit)" for buffer in call.lent]:
+    for what in ["result"] * call.returns + [f"{buffer}.new" for buffer in call.lent]:
         definition = call.definition_of(what)
         if not definition:
             yield f"has no equation for {what}"

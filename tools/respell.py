@@ -16,7 +16,7 @@ CRATES = [p.name for p in (TOP / "crates").iterdir() if (p / "src").is_dir()]
 STOP = r"\s(){}\[\];,.:@\"`"
 WORD = re.compile(rf"[^{STOP}]+")
 MARKS = r"(?:(?:pub|abbrev|unfoldable) )*"
-SIGNATURE = re.compile(rf"^\s*{MARKS}((?:[^{STOP}]+ )*[^{STOP}]+) :(?: |$)")
+SIGNATURE = re.compile(rf"^\s*{MARKS}((?:[^{STOP}]+ )*[^{STOP}]+)(?: {{[^}}]*}})? :(?: |$)")
 DECLARED = re.compile(rf"^\s*{MARKS}(?:ruleset) ([^{STOP}]+)")
 BOUND = re.compile(rf"\blet ([^{STOP}]+) [:=] |[({{]((?:[^{STOP}]+ )*[^{STOP}]+) : |λ \(?((?:[^{STOP}]+ ?)+)[.:]|\(([^{STOP}]+(?:, [^{STOP}]+)+)\) =")
 IMPORT = re.compile(r"^\s*(?:ghost )?(?:pub )?use ([\w.·'+-]+)\.\{([^}]*)\}", re.M)
@@ -58,7 +58,7 @@ def respelled(name):
 
 def generated(path):
     """Whether the file is the proof of one function, in which the compiler's names stand."""
-    return path.name in ("Proof.antt", "Answers.antt", "Invariants.antt")
+    return "proofs" in path.parts and path.name in ("Proof.antt", "Answers.antt", "Invariants.antt")
 
 
 def without_comments(text):
