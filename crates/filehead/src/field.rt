@@ -1,33 +1,43 @@
 // The file's fields, big-endian. Past the end of the file every byte is 0.
-ghost use Rattle.std.specs.Prelude.{◌≡◌, ◌<◌};
+ghost use Rattle.std.specs.Prelude.{◌≡◌, ◌+◌, ◌<◌, slice_index};
+ghost use Rattle.whole.specs.Lists.{tabulate};
 ghost use Rattle.circuitfile.specs.File.{field};
+
+// The byte at `at`.
+fn byte(file: &[u8], at: usize) -> u8
+    ensures { result ≡ slice_index file.now at }
+{
+    file.get(at).copied().unwrap_or(0)
+}
+
+// The bytes from `at` on, as many as the field is wide.
+fn bytes<const WIDTH: usize>(file: &[u8], at: usize) -> [u8; WIDTH]
+    ensures { result ≡ tabulate WIDTH (λ i. slice_index file.now (at + i)) }
+{
+    let mut bytes = [0; WIDTH];
+    for (i, read) in bytes.iter_mut().enumerate() {
+        *read = byte(file, at.saturating_add(i));
+    }
+    bytes
+}
 
 // The field of one byte at `at`.
 pub fn one(file: &[u8], at: usize) -> u32
     ensures { (result ≡ field file.now at 1) × (result < 256) }
 {
-    if file.len() <= at {
-        return 0;
-    }
-    file[at] as u32
+    u32::from(byte(file, at))
 }
 
 // The field of two bytes at `at`.
 pub fn two(file: &[u8], at: usize) -> u32
     ensures { (result ≡ field file.now at 2) × (result < 65536) }
 {
-    if file.len() <= at {
-        return 0;
-    }
-    256 * one(file, at) + one(file, at + 1)
+    u32::from(u16::from_be_bytes(bytes(file, at)))
 }
 
 // The field of four bytes at `at`.
 pub fn four(file: &[u8], at: usize) -> u32
     ensures { result ≡ field file.now at 4 }
 {
-    if file.len() <= at {
-        return 0;
-    }
-    65536 * two(file, at) + two(file, at + 2)
+    u32::from_be_bytes(bytes(file, at))
 }

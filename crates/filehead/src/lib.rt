@@ -8,7 +8,7 @@ ghost use Rattle.refusal.specs.First.{first_of};
 ghost use Rattle.circuitfile.specs.File.{file_params, file_inputs, file_gate_count, is_known, head_rows};
 
 use checks::are_bad_counts;
-use field::{four, one, two};
+use field::{four, two};
 use refusal::{Params, row};
 
 // The length of the head.
@@ -18,10 +18,7 @@ pub const HEAD: usize = 23;
 pub fn is_known(file: &[u8]) -> bool
     ensures { result ≡ is_known file.now }
 {
-    (one(file, 0) == b'G' as u32)
-        & (one(file, 1) == b'A' as u32)
-        & (one(file, 2) == b'T' as u32)
-        & (two(file, 3) == 1)
+    file.starts_with(b"GAT") && two(file, 3) == 1
 }
 
 // n, q, L, E and F.

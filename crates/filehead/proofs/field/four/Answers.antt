@@ -1,10 +1,11 @@
--- `field::four` is the first two bytes and then the other two (`field_four`), and 0 past the end.
+-- `field::four` puts its bytes together as big-endian has it.
 use Rattle.std.proofs.Common.{arith}
-use Rattle.circuitfile.specs.Fields.{field_four, field_past}
+use Rattle.whole.specs.Lists.{tabulate}
+use Rattle.circuitfile.specs.File.{field, big_endian}
 use Rattle.filehead.proofs.field.four.Goals as goal
 
-pub returns-then-file-at : goal.returns-then-file-at
-returns-then-file-at c = grind (arith, field_past)
-
 pub returns : goal.returns
-returns c = grind (arith, field_four)
+unfolding field big_endian tabulate
+returns c =
+    let read = rw c.bytes.ensures at c.from_be_bytes.ensures in
+    omega arith
