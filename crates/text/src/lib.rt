@@ -2,62 +2,54 @@
 #![tactic(auto)]
 
 mod line;
-mod write;
+mod page;
 
-ghost use Rattle.std.specs.Prelude.{◌≡◌, ◌++◌, ◌≤◌, length};
-ghost use Rattle.refusal.specs.First.{first_of};
-ghost use Rattle.circuitfile.specs.File.{file_bounds, head_rows};
+ghost use Rattle.std.specs.Prelude.{◌≡◌, [], ◌++◌, ◌≤◌, length};
+ghost use Rattle.circuitfile.specs.File.{file_bounds};
 ghost use Rattle.circuitfile.specs.Text.{wire_lines, ok_line, TextPromise};
 ghost use Rattle.circuitfile.specs.Text.{text as file_text};
-ghost use Rattle.gatfile.specs.Writing.{Written};
 
 use crate::line::{put_pair, put_wire};
-use crate::write::put;
+use crate::page::Page;
+pub use crate::page::ROOM;
 use circuitfile::Printed;
-use filehead::{params, wire_count};
+use filehead::{Head, params, wire_count};
 use gatfile::bounds;
 
-// Room for any text: 20 bytes for each of 5,120 wires, and 32 for the last line.
-pub const ROOM: usize = 102432;
-
 // The lines of all wires.
-fn put_wires(file: &[u8], bounds: &[u32], out: &mut [u8]) -> usize
-    requires { (first_of (head_rows file.now) ≡ 0) × (bounds.now ≡ file_bounds file.now) × (102432 ≤ length out.old) }
-    ensures { Written (wire_lines file.now) out.old out.new 0 result × (result ≤ 102400) }
+fn put_wires(page: &mut Page, head: Head<'_>, bounds: &[u32])
+    requires { (page.old ≡ []) × (bounds.now ≡ file_bounds head.file.now) }
+    ensures lines { page.new ≡ wire_lines head.entry.file.now }
+    ensures lines_length { length page.new ≤ 102400 }
 {
-    let mut at = 0;
-    let mut wire = 0;
-    while wire < bounds.len() {
-        at = put_wire(file, wire, bounds[wire], at, out);
-        wire += 1;
+    for (wire, bound) in bounds.iter().enumerate() {
+        put_wire(page, head, wire, *bound);
     }
-    at
 }
 
 // The text of a file that is not refused: the lines of all wires, then the output's bound and the largest bound that fits.
-fn put_bounds(file: &[u8], bounds: &[u32], out: &mut [u8]) -> usize
-    requires { (first_of (head_rows file.now) ≡ 0) × (bounds.now ≡ file_bounds file.now) × (102432 ≤ length out.old) }
-    ensures { Written (wire_lines file.now ++ ok_line file.now) out.old out.new 0 result }
+fn put_bounds(page: &mut Page, head: Head<'_>, bounds: &[u32])
+    requires { (page.old ≡ []) × (bounds.now ≡ file_bounds head.file.now) }
+    ensures { page.new ≡ wire_lines head.entry.file.now ++ ok_line head.entry.file.now }
 {
-    let at = put_wires(file, bounds, out);
-    let last = bounds.len() - 1;
-    let p = params(file);
-    let largest = (p.q - 1) / 4;
-    put_pair(b"OK ", bounds[last] as u64, largest as u64, at, out)
+    put_wires(page, head, bounds);
+    let output = bounds[bounds.len() - 1];
+    let largest = (params(head.file).q - 1) / 4;
+    put_pair(page, b"OK ", output as u64, largest as u64);
 }
 
-// The text, where there is room for any.
-fn put_text(file: &[u8], out: &mut [u8]) -> usize
-    requires { 102432 ≤ length out.old }
-    ensures { Written (file_text file.now) out.old out.new 0 result }
+// The text of any file.
+fn put_text(page: &mut Page, file: &[u8])
+    requires { page.old ≡ [] }
+    ensures { page.new ≡ file_text file.now }
 {
     let r = bounds(file);
     if r.number != 0 {
-        return put_pair(b"REFUSED ", r.number as u64, r.place, 0, out);
+        put_pair(page, b"REFUSED ", r.number as u64, r.place);
+        return;
     }
-    let wires = wire_count(file);
     let table = r.bounds;
-    put_bounds(file, &table[0..wires], out)
+    put_bounds(page, Head { file }, &table[..wire_count(file)]);
 }
 
 // Writes the text at the front of the buffer and answers its length. A buffer that is shorter than the text is refused with 3, and nothing is
@@ -66,19 +58,20 @@ pub fn text(file: &[u8], out: &mut [u8]) -> Printed
     ensures promise { TextPromise file.now out.old result out.new }
     ensures length_high { length (file_text file.now) ≤ 102432 }
 {
-    let mut room = [0u8; ROOM];
-    let long = put_text(file, &mut room);
-    if out.len() < long {
+    let mut page = Page::new();
+    put_text(&mut page, file);
+    let text = page.text();
+    if out.len() < text.len() {
         return Printed {
             number: 3,
             place: 0,
             bytes: 0,
         };
     }
-    put(&room[0..long], 0, out);
+    out[..text.len()].copy_from_slice(text);
     Printed {
         number: 0,
         place: 0,
-        bytes: long,
+        bytes: text.len(),
     }
 }

@@ -1,11 +1,8 @@
--- The invariant: the lines of the wires passed are written from the front (`PartsWritten`), each of at most 20 bytes.
-use Rattle.std.proofs.Common.{length, ◌-◌, ◌*◌, ◌≤◌}
+-- The invariant: the lines of the wires passed are written, each of at most 20 bytes.
+use Rattle.std.proofs.Common.{◌≡◌, ◌*◌, ◌≤◌, length, take}
+use mathlib.Core.List.{flat_map}
 use Rattle.circuitfile.specs.Lines.{line_of, file_wires}
-use Rattle.gatfile.specs.Writing.{PartsWritten}
 use Rattle.text.proofs.put_wires.Given as goal
 
 abbrev pub invariant-loop-wire : goal.invariant-loop-wire
-invariant-loop-wire l = PartsWritten (line_of l.file) (file_wires l.file) l.initial.out l.out l.at l.wire × (l.at ≤ 20 * l.wire)
-
-abbrev pub decreases-loop-wire : goal.decreases-loop-wire
-decreases-loop-wire l = length l.bounds - l.wire
+invariant-loop-wire l = (l.page ≡ flat_map (line_of l.head.file.now) (take l.wire (file_wires l.head.file.now))) × (length l.page ≤ 20 * l.wire)

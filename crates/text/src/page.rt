@@ -1,0 +1,72 @@
+// The page that a text is written on. A contract sees the bytes written so far.
+ghost use Rattle.std.specs.Prelude.{◌≡◌, ◌≤◌, ◌+◌, List, ℕ, [], ◌∷◌, ◌++◌, length, take};
+ghost use Rattle.circuitfile.specs.Text.{decimal};
+
+use std::marker::Model;
+
+// Room for any text: 20 bytes for each of 5,120 wires, and 32 for the last line.
+pub const ROOM: usize = 102432;
+
+#[derive(Drop)]
+pub struct Page {
+    bytes: [u8; ROOM],
+    len: usize,
+}
+
+impl Model for Page {
+    ghost Value = { List ℕ };
+
+    ghost view = { λ p. take p.len p.bytes };
+
+    ghost invariant = { λ p. p.len ≤ 102432 };
+}
+
+impl Page {
+    // An empty page.
+    pub fn new() -> Page
+        ensures { result ≡ [] }
+    {
+        Page {
+            bytes: [0; ROOM],
+            len: 0,
+        }
+    }
+
+    // What is written.
+    pub fn text(&self) -> &[u8]
+        ensures text { result.now ≡ self.now }
+        ensures text_length { length result.now ≤ 102432 }
+    {
+        &self.bytes[..self.len]
+    }
+
+    // Writes bytes.
+    pub fn put(&mut self, bytes: &[u8])
+        requires { length self.old + length bytes.now ≤ 102432 }
+        ensures { self.new ≡ self.old ++ bytes.now }
+    {
+        let to = self.len + bytes.len();
+        self.bytes[self.len..to].copy_from_slice(bytes);
+        self.len = to;
+    }
+
+    // Writes the decimal digits of a number.
+    pub fn put_number(&mut self, x: u64)
+        requires { length self.old + length (decimal x) ≤ 102432 }
+        ensures { self.new ≡ self.old ++ decimal x }
+    {
+        if 9 < x {
+            self.put_number(x / 10);
+        }
+        self.put(&[b'0' + (x % 10) as u8]);
+    }
+
+    // Writes the digits of a number, and the byte that ends them.
+    pub fn put_field(&mut self, x: u64, end: u8)
+        requires { length self.old + length (decimal x) + 1 ≤ 102432 }
+        ensures { self.new ≡ self.old ++ (decimal x ++ (end ∷ [])) }
+    {
+        self.put_number(x);
+        self.put(&[end]);
+    }
+}
