@@ -1,2 +1,3 @@
 -- Laws that several proofs of the crate cite.
 pub mod Digits
+pub mod Left

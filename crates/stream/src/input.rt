@@ -1,9 +1,11 @@
 // Whole numbers from a reader, in decimal, with white space between them. The input passes through
 // a block and is never held whole, so it may be of any length.
-ghost use Rattle.std.specs.Prelude.{◌≤◌, ◌<◌, ◌≡◌, length, IfOk, IfSome};
+ghost use Rattle.std.specs.Prelude.{◌≤◌, ◌<◌, ◌≡◌, List, ℕ, [], length, drop, slice_get, slice_range, IfOk, IfSome};
 ghost use Rattle.stream.specs.Bounds.{CountIn};
+ghost use Rattle.stream.specs.White.{is_white as White·is_white, WhiteNext};
 
 use std::io::{Read, Result};
+use std::marker::Model;
 
 // The bytes of a block.
 const BLOCK: usize = 65536;
@@ -13,20 +15,27 @@ const BLOCK: usize = 65536;
 const MOST: usize = 65536;
 
 // A reader, the block that was read last, and what is left of it: its bytes from `at` up to, not
-// including, `end`.
+// including, `end`. A contract sees these bytes.
 #[derive(Drop)]
 pub struct Input<R> {
     reader: R,
     block: [u8; BLOCK],
     at: usize,
     end: usize,
-    ghost within: { (at ≤ end) × (end ≤ 65536) },
+}
+
+impl<R> Model for Input<R> {
+    ghost Value = { List ℕ };
+
+    ghost view = { λ i. slice_range i.block i.at i.end };
+
+    ghost invariant = { λ i. (i.at ≤ i.end) × (i.end ≤ 65536) };
 }
 
 impl<R: Read> Input<R> {
     // Nothing is left of a block that was never read: the first call of `number` reads it.
     pub fn new(reader: R) -> Input<R>
-        ensures { (result.at ≡ 0) × (result.end ≡ 0) }
+        ensures { result ≡ [] }
     {
         Input {
             reader,
@@ -40,9 +49,11 @@ impl<R: Read> Input<R> {
     // None at the end of the input, at a read that fails, at a token that is no such number or is
     // outside i64, and where too many bytes of white space or digits come (MOST). Reading has then
     // stopped, perhaps within a token, and a caller is to stop there too.
-    pub fn number(&mut self) -> Option<i64> {
+    pub fn number(&mut self) -> Option<i64>
+        ensures { IfSome result (λ _. WhiteNext self.new) }
+    {
         if self.skip()? == b'-' {
-            self.at += 1;
+            self.take();
             return 0i64.checked_sub_unsigned(self.digits()?);
         }
         i64::try_from(self.digits()?).ok()
@@ -65,29 +76,34 @@ impl<R: Read> Input<R> {
     // The next byte, which stays to be taken; None at the end of the input. Where nothing is left of
     // the block it is read anew, from its start.
     fn peek(&mut self) -> Result<Option<u8>>
-        ensures { IfOk result (λ b. IfSome b (λ _. self.new.at < self.new.end)) }
+        ensures { IfOk result (λ b. b ≡ slice_get self.new 0) }
     {
         if self.at == self.end {
             self.end = self.reader.read(&mut self.block)?;
             self.at = 0;
         }
-        if self.at == self.end {
-            return Ok(None);
-        }
-        Ok(Some(self.block[self.at]))
+        Ok(self.block[self.at..self.end].first().copied())
+    }
+
+    // Takes the next byte.
+    fn take(&mut self)
+        requires { 0 < length self.old }
+        ensures { self.new ≡ drop 1 self.old }
+    {
+        self.at += 1;
     }
 
     // Passes over white space, of which at most MOST bytes are taken, and tells the byte after it,
     // which stays to be taken. None where the input has ended or a read failed.
     fn skip(&mut self) -> Option<u8>
-        ensures { IfSome result (λ _. self.new.at < self.new.end) }
+        ensures { IfSome result (λ b. slice_get self.new 0 ≡ Some b) }
     {
         for _ in 0..MOST {
             let b = self.peek().ok()??;
             if !is_white(b) {
                 return Some(b);
             }
-            self.at += 1;
+            self.take();
         }
         self.peek().ok()?
     }
@@ -95,7 +111,9 @@ impl<R: Read> Input<R> {
     // Takes digits up to white space or the end of the input, and gives their value: None where
     // there are none or too many, and at any other byte. A read that fails among digits is not
     // taken for the end of the input: the digits may go on.
-    fn digits(&mut self) -> Option<u64> {
+    fn digits(&mut self) -> Option<u64>
+        ensures { IfSome result (λ _. WhiteNext self.new) }
+    {
         let mut size = None;
         for _ in 0..MOST {
             let Some(b) = self.peek().ok()? else {
@@ -108,7 +126,7 @@ impl<R: Read> Input<R> {
                 return None;
             }
             size = Some(more(size.unwrap_or(0), b - b'0')?);
-            self.at += 1;
+            self.take();
         }
         None
     }
@@ -120,6 +138,9 @@ fn more(size: u64, digit: u8) -> Option<u64> {
 }
 
 // Space, tab, line feed, carriage return.
-fn is_white(b: u8) -> bool {
+#[tactic(auto, unfolding(crate::specs::White::is_white))]
+fn is_white(b: u8) -> bool
+    ensures { result ≡ White·is_white b }
+{
     matches!(b, b' ' | b'\t' | b'\n' | b'\r')
 }

@@ -1,9 +1,11 @@
 // Whole numbers and words to a writer, gathered in a block: `flush` at the end writes what is left.
 // Bytes whose write fails are dropped.
-ghost use Rattle.std.specs.Prelude.{◌+◌, ◌≤◌, ◌≡◌, decimal, length, take, drop};
+ghost use Rattle.std.specs.Prelude.{◌+◌, ◌≤◌, ◌≡◌, List, ℕ, [], ◌∷◌, ◌++◌, decimal, length, take, drop};
 ghost use Rattle.stream.specs.Bounds.{CountIn};
+ghost use Rattle.stream.specs.Held.{room_for, put, put_number, spaced};
 
 use std::io::Write;
+use std::marker::Model;
 
 // The bytes of a block.
 const BLOCK: usize = 65536;
@@ -11,18 +13,26 @@ const BLOCK: usize = 65536;
 // The most bytes that a number takes, with its sign and the space after it, and a few more.
 const WIDEST: usize = 24;
 
-// A writer, and a block whose first `at` bytes are still to be written to it.
+// A writer, and a block whose first `at` bytes are still to be written to it. A contract sees these
+// bytes.
 #[derive(Drop)]
 pub struct Output<W> {
     writer: W,
     block: [u8; BLOCK],
     at: usize,
-    ghost placed: { at ≤ 65536 },
+}
+
+impl<W> Model for Output<W> {
+    ghost Value = { List ℕ };
+
+    ghost view = { λ o. take o.at o.block };
+
+    ghost invariant = { λ o. o.at ≤ 65536 };
 }
 
 impl<W: Write> Output<W> {
     pub fn new(writer: W) -> Output<W>
-        ensures { result.at ≡ 0 }
+        ensures { result ≡ [] }
     {
         Output {
             writer,
@@ -33,45 +43,49 @@ impl<W: Write> Output<W> {
 
     // Puts the decimal digits of `x`, after a `-` if it is negative, and a space. Where fewer than
     // WIDEST bytes are free the block is written first.
-    pub fn number(&mut self, x: i64) {
+    pub fn number(&mut self, x: i64)
+        ensures { self.new ≡ put_number x self.old }
+    {
         self.room(WIDEST);
         if x < 0 {
-            self.block[self.at] = b'-';
-            self.at += 1;
+            self.append(b"-");
         }
         self.unsigned(x.unsigned_abs());
     }
 
     // Puts the decimal digits of `n` and a space.
-    pub fn unsigned(&mut self, n: u64) {
+    pub fn unsigned(&mut self, n: u64)
+        ensures { self.new ≡ put (spaced (decimal n)) self.old }
+    {
         let mut digits = [0u8; 20];
         let k = decimal(n, &mut digits);
         self.word(&digits[..k]);
     }
 
     // Puts a line feed.
-    pub fn end_line(&mut self) {
+    pub fn end_line(&mut self)
+        ensures { self.new ≡ put (10 ∷ []) self.old }
+    {
         self.room(1);
-        self.block[self.at] = b'\n';
-        self.at += 1;
+        self.append(b"\n");
     }
 
     // Puts a word and a space. Where they do not fit after `at` the block is written first; a word
     // that the block cannot hold is left out.
-    pub fn word(&mut self, word: &[u8]) {
+    pub fn word(&mut self, word: &[u8])
+        ensures { self.new ≡ put (spaced word.now) self.old }
+    {
         let n = word.len();
         self.room(n + 1);
-        let free = &mut self.block[self.at..];
-        if n < free.len() {
-            free[..n].copy_from_slice(word);
-            free[n] = b' ';
-            self.at += n + 1;
+        if n < BLOCK - self.at {
+            self.append(word);
+            self.append(b" ");
         }
     }
 
     // Writes what the block holds.
     pub fn flush(&mut self)
-        ensures { self.new.at ≡ 0 }
+        ensures { self.new ≡ [] }
     {
         let _ = self.writer.write_all(&self.block[..self.at]);
         self.at = 0;
@@ -79,11 +93,21 @@ impl<W: Write> Output<W> {
 
     // Has `n` bytes of the block free, if it is as long as that: where fewer are, it is written first.
     fn room(&mut self, n: usize)
-        ensures { n ≤ 65536 → self.new.at + n ≤ 65536 }
+        ensures { self.new ≡ room_for n self.old }
     {
         if n > BLOCK - self.at {
             self.flush();
         }
+    }
+
+    // Puts bytes for which there is room.
+    fn append(&mut self, bytes: &[u8])
+        requires { length self.old + length bytes.now ≤ 65536 }
+        ensures { self.new ≡ self.old ++ bytes.now }
+    {
+        let end = self.at + bytes.len();
+        self.block[self.at..end].copy_from_slice(bytes);
+        self.at = end;
     }
 }
 
