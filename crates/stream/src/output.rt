@@ -2,7 +2,7 @@
 // Bytes whose write fails are dropped.
 ghost use Rattle.std.specs.Prelude.{◌+◌, ◌≤◌, ◌≡◌, List, ℕ, [], ◌∷◌, ◌++◌, decimal, length, take, drop};
 ghost use Rattle.stream.specs.Bounds.{CountIn};
-ghost use Rattle.stream.specs.Held.{room_for, put, put_number, spaced};
+ghost use Rattle.stream.specs.Held.{room_for, put, put_number, put_numbers, spaced};
 
 use std::io::Write;
 use std::marker::Model;
@@ -60,6 +60,15 @@ impl<W: Write> Output<W> {
         let mut digits = [0u8; 20];
         let k = decimal(n, &mut digits);
         self.word(&digits[..k]);
+    }
+
+    // Puts numbers one after the other.
+    pub fn numbers(&mut self, xs: &[i64])
+        ensures { self.new ≡ put_numbers xs.now self.old }
+    {
+        for x in xs {
+            self.number(*x);
+        }
     }
 
     // Puts a line feed.
@@ -123,18 +132,12 @@ pub fn decimal(n: u64, out: &mut [u8; 20]) -> usize
     k
 }
 
-// How many decimal digits n has.
+// How many decimal digits n has: 0 has one, as 1 has.
 fn digit_count(n: u64) -> usize
     ensures value { result ≡ length (decimal n) }
     ensures most { result ≤ 20 }
 {
-    let mut k = 1;
-    let mut rest = n;
-    while rest > 9 {
-        rest /= 10;
-        k += 1;
-    }
-    k
+    n.max(1).ilog10() as usize + 1
 }
 
 // Fills `out` with n's decimal digits, the last one first.
@@ -142,12 +145,9 @@ fn write_digits(n: u64, out: &mut [u8])
     requires { length out.old ≡ length (decimal n) }
     ensures { out.new ≡ decimal n }
 {
-    let mut at = out.len();
     let mut rest = n;
-    while rest > 9 {
-        at -= 1;
-        out[at] = b'0' + (rest % 10) as u8;
+    for i in (0..out.len()).rev() {
+        out[i] = b'0' + (rest % 10) as u8;
         rest /= 10;
     }
-    out[0] = b'0' + rest as u8;
 }

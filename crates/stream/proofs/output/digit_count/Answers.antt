@@ -1,17 +1,6 @@
--- `stream::output::digit_count` counts one digit, and one more each time that what is left is above 9.
-use Rattle.std.proofs.Common.{arith}
-use Rattle.stream.proofs.Digits.{length_one, length_more, length_most}
+-- `output::digit_count` counts one more than the power of ten that the number reaches. Assumes nothing.
+use Rattle.stream.proofs.Digits.{length_by_power}
 use Rattle.stream.proofs.output.digit_count.Goals as goal
 
-pub overflow_add-k : goal.overflow_add-k
-overflow_add-k c =
-    let most = length_most c.args.n c.ranges.n.fits in
-    record { fits = omega arith }
-
-pub loop-rest-preserved : goal.loop-rest-preserved
-loop-rest-preserved c = omega (arith, length_more c.loop-rest.rest c.loop-rest-test.true c.loop-rest.auto.rest-fits.fits)
-
-pub returns : goal.returns
-returns c =
-    let one = length_one c.loop-rest.rest c.loop-rest-test.false in
-    record { value = omega arith; most = omega (arith, length_most c.args.n c.ranges.n.fits) }
+pub returns-clause-value : goal.returns-clause-value
+returns-clause-value c = length_by_power c.args.n c.ilog10.result c.ranges.n.fits (rw (← c.max.ensures) c.ilog10.ensures.power_le) (rw (← c.max.ensures) c.ilog10.ensures.next_power_gt)

@@ -8,8 +8,8 @@ pub returns : goal.returns
 returns g c =
     let size = simp (to_z-of_z, c.ranges.x) at c.unsigned_abs.ensures.value in
     elim c.if-x-lt0.branch [
-      then-x-lt0 w ↦ rw (c.unsigned.ensures, w.self-is, w.append.ensures, c.room.ensures, size)
-        (put_minus c.args.x c.args.self.now (omega (arith, size, c.unsigned_abs.ensures.bound)) (simp (to_z-of_z, c.ranges.x) at w.if-x-lt0.true))
-    | else-x-lt0 w ↦ rw (c.unsigned.ensures, w.self-is, c.room.ensures, size)
-        (put_plain c.args.x c.args.self.now (omega (arith, size, c.unsigned_abs.ensures.bound)) (simp (to_z-of_z, c.ranges.x) at w.if-x-lt0.false))
+      | then-x-lt0 w ↦ rw (c.unsigned.ensures, w.self-is, w.append.ensures, c.room.ensures, size)
+          (put_minus c.args.x c.args.self.now (omega (arith, size, c.unsigned_abs.ensures.bound)) (simp (to_z-of_z, c.ranges.x) at w.if-x-lt0.true))
+      | else-x-lt0 w ↦ rw (c.unsigned.ensures, w.self-is, c.room.ensures, size)
+          (put_plain c.args.x c.args.self.now (omega (arith, size, c.unsigned_abs.ensures.bound)) (simp (to_z-of_z, c.ranges.x) at w.if-x-lt0.false))
     ]
