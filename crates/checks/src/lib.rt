@@ -1,12 +1,16 @@
-// The checks of a circuit's gates, counts and bounds: document 01's *Circuits*. What each answers is defined in the crate circuit.
+// A circuit as it is lent, and the checks of its gates, counts and bounds: document 01's *Circuits*. What each answers is defined in the crate circuit.
 #![tactic(auto)]
 
 ghost use Rattle.std.specs.Prelude.{◌≡◌, not};
 ghost use Rattle.whole.specs.Lists.{every};
-ghost use Rattle.refusal.specs.First.{first_true};
 ghost use Rattle.scheme.specs.Arithmetic.{fits};
-ghost use Rattle.circuit.specs.Circuits.{gate, bad_counts, wrong_gate, wrong_gates, records};
-ghost use Rattle.checks.specs.Ready.{ListsReady};
+ghost use Rattle.circuit.specs.Circuits.{bad_counts, wrong_gate, wrong_gates};
+ghost use Rattle.checks.specs.Ready.{CircuitReady, IsFirstTrue};
+
+pub mod lent;
+
+use circuit::Gate;
+use lent::Gates;
 
 // 2: the count of inputs or gates is outside its range.
 pub fn are_bad_counts(inputs: u32, gates: usize) -> bool
@@ -19,38 +23,29 @@ pub fn are_bad_counts(inputs: u32, gates: usize) -> bool
 pub fn is_some_over(q: u32, bounds: &[u32]) -> bool
     ensures { result ≡ not (every (fits q) bounds.now) }
 {
-    let mut over: u64 = 0;
-    let mut i = 0;
-    while i < bounds.len() {
-        if (q as u64) <= 4 * (bounds[i] as u64) {
-            over += 1;
-        }
-        i += 1;
-    }
-    !(over == 0)
+    bounds.iter().any(|bound| q as u64 <= 4 * (*bound as u64))
 }
 
 // 9: whether a gate that makes the wire `own` is wrong in kind, operand or NOT's right. No branch on the kind, which no processor can
 // foretell; NOT's right is held to `own` too, since 0 lies below the wire of any gate whose left does.
-pub fn is_wrong(own: u32, kind: u32, left: u32, right: u32) -> bool
-    ensures { result ≡ wrong_gate own (gate kind left right) }
+pub fn is_wrong(own: u32, gate: Gate) -> bool
+    ensures { result ≡ wrong_gate own gate }
 {
-    (2 < kind) | (own <= left) | (own <= right) | ((kind == 2) & !(right == 0))
+    (2 < gate.kind)
+        | (own <= gate.left)
+        | (own <= gate.right)
+        | ((gate.kind == 2) & !(gate.right == 0))
 }
 
-// The first wrong gate, or the number of gates where none is wrong. Gate 0 makes the wire `inputs`.
-pub fn first_wrong(inputs: u32, kinds: &[u32], lefts: &[u32], rights: &[u32]) -> usize
-    requires { ListsReady inputs kinds.now lefts.now rights.now }
-    ensures { result ≡ first_true (wrong_gates inputs (records kinds.now lefts.now rights.now)) }
+// The first wrong gate, if there is one. Gate 0 makes the wire `inputs`.
+pub fn first_wrong<C: Gates>(inputs: u32, circuit: &C) -> Option<usize>
+    requires { CircuitReady inputs (C.lent circuit.now) }
+    ensures { IsFirstTrue (wrong_gates inputs (C.lent circuit.now).gates) result }
 {
-    let mut own = inputs;
-    let mut g = 0;
-    while g < kinds.len() {
-        if is_wrong(own, kinds[g], lefts[g], rights[g]) {
-            return g;
+    for g in 0..circuit.count() {
+        if is_wrong(inputs + g as u32, circuit.gate(g)) {
+            return Some(g);
         }
-        own += 1;
-        g += 1;
     }
-    g
+    None
 }
