@@ -1,13 +1,13 @@
 -- What it tells that none of the rows in front of the gates' applies, and the four ends of planning: what each answers, and what it leaves in the bounds.
-use Rattle.std.proofs.Common.{◌≡◌, refl, sym, ap, ◌∙◌, ◌≢◌, false, List, ℕ, ◌≤◌, ◌<◌, arith, length, length-take-le}
+use Rattle.std.proofs.Common.{◌≡◌, refl, sym, ap, ◌∙◌, ◌≢◌, Bool, false, List, ℕ, ◌≤◌, ◌<◌, arith, length, length-take-le}
 use Rattle.refusal.specs.declared.Refusal.{Refusal}
-use Rattle.refusal.specs.First.{refused, first_of, first_true, some_true, Clear, are_single, none_first, done_or_done, done_or_refused}
+use Rattle.refusal.specs.First.{refused, first_of, first_true, Clear, are_single, done_or_done, done_or_refused}
 use Rattle.circuit.specs.declared.Gate.{Gate}
 use Rattle.circuit.specs.Circuits.{wrong_gates}
 use Rattle.circuit.specs.Plan.{PlanLoans, stated, plan_front, plan_rows, plan_answer, plan_bounds, PlanPromise}
 use Rattle.circuit.specs.Passed.{PlanPassed, plan_clear, plan_passed}
 use Rattle.circuit.specs.Records.{length_wrong_gates}
-use Rattle.circuit.proofs.Records.{length_bounds_of}
+use Rattle.circuit.proofs.Records.{length_bounds_of, length_over_gates}
 use Rattle.circuit.proofs.Answers.{answered_early, answered_wrong, answered_over, answered_done}
 use Rattle.planning.proofs.Settling.{bounds_all, over_all}
 
@@ -46,27 +46,31 @@ module _ (a : PlanLoans) where
         omega (arith, length_bounds_of a.p gates (stated a), length-take-le a.inputs a.bounds (omega (arith, long)), r.many, long)
 
     -- a gate is wrong
-    pub planned_wrong : {w : ℕ} → w ≡ first_true (wrong_gates a.inputs a.circuit.gates) → w < a.circuit.count → PlanPromise a (refused 9 w) a.bounds
+    abbrev wrong : List Bool
+    wrong = wrong_gates a.inputs a.circuit.gates
+
+    pub planned_wrong : {w : ℕ} → (w ≡ first_true wrong) × (w < length wrong) → PlanPromise a (refused 9 w) a.bounds
     unfolding plan_answer plan_rows
-    planned_wrong e h = planned_refused (λ z. omega arith) (rw e (answered_wrong a.p a.inputs gates (stated a) (plan_front a) r.clear (omega (arith, e, r.many))))
+    planned_wrong e =
+        planned_refused (λ z. omega arith)
+        (rw e.0 (answered_wrong a.p a.inputs gates (stated a) (plan_front a) r.clear (omega (arith, e.0, e.1, length_wrong_gates a.inputs gates))))
 
-    module _ (right : a.circuit.count ≤ first_true (wrong_gates a.inputs a.circuit.gates)) where
-      all_right : length gates ≤ first_true (wrong_gates a.inputs gates)
-      all_right = omega (arith, r.many)
-
-      pub none_wrong : some_true (wrong_gates a.inputs a.circuit.gates) ≡ false
-      none_wrong = none_first (wrong_gates a.inputs gates) (omega (arith, length_wrong_gates a.inputs gates, r.many))
+    module _ (right : length wrong ≤ first_true wrong) where
+      all_right : length gates ≤ first_true wrong
+      all_right = omega (arith, right, length_wrong_gates a.inputs gates)
 
       -- a gate is over the budget
-      pub planned_over : {o : ℕ} → o ≡ first_true (over_all a) → o < a.circuit.count → PlanPromise a (refused 10 o) a.bounds
+      pub planned_over : {o : ℕ} → (o ≡ first_true (over_all a)) × (o < length (over_all a)) → PlanPromise a (refused 10 o) a.bounds
       unfolding plan_answer plan_rows
-      planned_over e h =
-          planned_refused (λ z. omega arith) (rw e (answered_over a.p a.inputs gates (stated a) (plan_front a) r.clear all_right (omega (arith, e, r.many))))
+      planned_over e =
+          planned_refused (λ z. omega arith)
+          (rw e.0
+          (answered_over a.p a.inputs gates (stated a) (plan_front a) r.clear all_right (omega (arith, e.0, e.1, length_over_gates a.p gates (stated a)))))
 
       -- none is
-      pub planned_done : {o : ℕ} {out : List ℕ} → o ≡ first_true (over_all a) → a.circuit.count ≤ o
-          → out ≡ bounds_all a → PlanPromise a (refused 0 0) out
+      pub planned_done : {out : List ℕ} → length (over_all a) ≤ first_true (over_all a) → out ≡ bounds_all a → PlanPromise a (refused 0 0) out
       unfolding plan_answer plan_rows plan_bounds
-      planned_done e h w =
-          let answer : refused 0 0 ≡ plan_answer a = answered_done a.p a.inputs gates (stated a) (plan_front a) r.clear all_right (omega (arith, e, r.many)) in
+      planned_done h w =
+          let answer : refused 0 0 ≡ plan_answer a =
+          answered_done a.p a.inputs gates (stated a) (plan_front a) r.clear all_right (omega (arith, h, length_over_gates a.p gates (stated a))) in
           record { answer = answer; bounds_left = w ∙ sym (done_or_done _ a.bounds (sym (ap (λ (x : Refusal). x.number) answer))) }

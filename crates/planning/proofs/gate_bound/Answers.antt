@@ -6,14 +6,14 @@ use Rattle.circuit.specs.Circuits.{by_kind}
 use Rattle.circuit.specs.Records.{kind_neither}
 use Rattle.planning.proofs.gate_bound.Goals as goal
 
-pub returns-then-kind-eq0 : goal.returns-then-kind-eq0
+pub returns-in-0 : goal.returns-in-0
 unfolding by_kind
-returns-then-kind-eq0 c = (simp (c.if-kind-eq0.true, XOR_bound_is), omega (arith, c.requires.range.q_high))
+returns-in-0 c = (simp (c.in-0.is, XOR_bound_is), omega (arith, c.requires.range.q_high))
 
-pub returns-then-kind-eq1 : goal.returns-then-kind-eq1
+pub returns-in-1 : goal.returns-in-1
 unfolding by_kind
-returns-then-kind-eq1 c = (simp c.if-kind-eq1.true c.and_bound.ensures.0, c.and_bound.ensures.1)
+returns-in-1 c = (simp c.in-1.is c.and_bound.ensures.0, c.and_bound.ensures.1)
 
-pub returns : goal.returns
-returns c =
-    (sym (NOT_bound_is c.args.b1) ∙ sym (kind_neither c.args.kind _ _ _ c.if-kind-eq0.false c.if-kind-eq1.false), omega (arith, c.requires.range.q_high))
+pub returns-in_default : goal.returns-in_default
+returns-in_default c =
+    (sym (NOT_bound_is c.args.b1) ∙ sym (kind_neither c.args.kind _ _ _ (λ e. omega arith) (λ e. omega arith)), omega (arith, c.requires.range.q_high))

@@ -1,93 +1,88 @@
 -- `planning::plan` answers and writes as planning is defined: each return is one of the four ends of `Planned`. What `plan_number` answers 0 tells
 -- (`PlanReady`) is what the functions ask for, and the buffer gets the copy of the bounds that `settle` filled.
-use Rattle.std.proofs.Common.{◌≡◌, refl, sym, ap, ◌∙◌, List, ◌++◌, ℕ, ◌-◌, ◌≤◌, ◌<◌, length, take, arith}
-use Rattle.whole.specs.Lists.{put_first}
-use Rattle.refusal.specs.declared.Params.{Params}
-use Rattle.refusal.specs.First.{refused, first_of, first_true}
-use Rattle.circuit.specs.Circuits.{wrong_gates, over_gates, bounds_of, records, as_lists}
-use Rattle.circuit.specs.Plan.{PlanLoans, plan_loans, plan_front, PlanPromise}
-use Rattle.circuit.specs.Records.{length_records, even_lengths}
+use Rattle.std.proofs.Common.{◌≡◌, sym, ap, ◌∙◌, false, List, ◌++◌, ℕ, ◌≤◌, ◌<◌, length, take, take_at, length-take-le, arith}
+use Rattle.refusal.specs.First.{refused, first_of, first_true, none_first}
+use Rattle.circuit.specs.Circuits.{wrong_gates, over_gates, bounds_of}
+use Rattle.circuit.specs.Plan.{PlanLoans, plan_front, PlanPromise}
 use Rattle.circuit.specs.Answers.{inputs_within, gates_within}
-use Rattle.checks.specs.Ready.{ListsReady}
+use Rattle.checks.specs.Ready.{CircuitReady}
 use Rattle.planning.specs.Ready.{SettleReady}
-use Rattle.planning.proofs.Settling.{bounds_all, over_all}
-use Rattle.planning.proofs.Planned.{PlanReady, plan_ready, bounds_kept, none_wrong, planned_early, planned_wrong, planned_over, planned_done}
+use Rattle.planning.proofs.Settling.{bounds_all}
+use Rattle.planning.proofs.Planned.{PlanReady, plan_ready, bounds_kept, planned_early, planned_wrong, planned_over, planned_done}
 use Rattle.planning.proofs.plan.Goals as goal
 
 -- past the rows in front, where `plan_number` answered 0
-module _ (p : Params) (inputs : ℕ) (kinds lefts rights bounds : List ℕ) where
-  abbrev loans : PlanLoans
-  loans = plan_loans p inputs (as_lists kinds lefts rights) bounds
+module _ (a : PlanLoans) (sized : a.circuit.uneven ≡ false → length a.circuit.gates ≡ a.circuit.count) {n : ℕ} (answered : n ≡ first_of (plan_front a)) (none : n ≡ 0) where
+  ready : PlanReady a
+  ready = plan_ready a sized (sym answered ∙ none)
 
-  module _ {n : ℕ} (answered : n ≡ first_of (plan_front loans)) (none : n ≡ 0) where
-    ready : PlanReady loans
-    ready = plan_ready loans (λ e. let (lefts_long, rights_long) = even_lengths _ _ _ e in length_records _ _ _ lefts_long rights_long) (sym answered ∙ none)
+  circuit : CircuitReady a.inputs a.circuit
+  circuit =
+      let r = ready.passed in
+      record { inputs_high = inputs_within _ _ r.counts; gates_high = gates_within a.inputs _ r.counts; even = r.even }
 
-    lists : ListsReady inputs kinds lefts rights
-    lists =
-        let r = ready.passed in
-        let (lefts_long, rights_long) = even_lengths _ _ _ r.even in
-        record { inputs_high = inputs_within _ _ r.counts; gates_high = gates_within inputs _ r.counts; lefts_long = lefts_long; rights_long = rights_long }
+  short : length a.bounds ≤ 5120
+  short = omega (arith, circuit.inputs_high, circuit.gates_high, ready.passed.bounds_long)
 
-    -- no gate is wrong: the part of the table that was copied to is as found, with `rest` behind it
-    module _ {w : ℕ} (searched : w ≡ first_true (wrong_gates inputs (records kinds lefts rights))) (right : length kinds ≤ w) {new : List ℕ} (copied : new ≡ bounds) where
-      all_right : loans.circuit.count ≤ first_true (wrong_gates inputs loans.circuit.gates)
-      all_right = omega (arith, right, searched)
+  -- no gate is wrong: the part of the table that was copied to is as found, with `rest` behind it
+  module _ (right : length (wrong_gates a.inputs a.circuit.gates) ≤ first_true (wrong_gates a.inputs a.circuit.gates)) {new : List ℕ} (copied : new ≡ a.bounds) (rest : List ℕ) where
+    abbrev table : List ℕ
+    table = take (length a.bounds) (new ++ rest)
 
-      lent : (rest : List ℕ) → take (length bounds - 0) (new ++ rest) ≡ bounds
-      lent rest = rw copied (put_first _ _ rest refl)
+    lent : table ≡ a.bounds
+    lent = rw copied (take_at a.bounds rest (length a.bounds) cc)
 
-      to_settle : (rest : List ℕ) → SettleReady p inputs kinds lefts rights (take (length bounds - 0) (new ++ rest))
-      to_settle rest =
-          record {
-            range = ready.passed.range;
-            lists = lists;
-            room = ap length (lent rest) ∙ ready.passed.bounds_long;
-            fit = rw lent ready.passed.fit;
-            gates_right = none_wrong _ ready all_right;
-          }
+    to_settle : SettleReady a.p a.inputs a.circuit table
+    to_settle =
+        record {
+          range = ready.passed.range;
+          circuit = circuit;
+          room = ap length lent ∙ ready.passed.bounds_long;
+          fit = rw lent ready.passed.fit;
+          gates_right = none_first _ right;
+        }
 
-      -- what `settle` answers and leaves of that part is of the bounds as found
-      module _ (rest : List ℕ) {o : ℕ} (settled : o ≡ first_true (over_gates p (records kinds lefts rights) (take inputs (take (length bounds - 0) (new ++ rest))))) where
-        over : o ≡ first_true (over_all loans)
-        over = rw lent at settled
+    refused_over : {o : ℕ}
+        → (o ≡ first_true (over_gates a.p a.circuit.gates (take a.inputs table))) × (o < length (over_gates a.p a.circuit.gates (take a.inputs table)))
+        → PlanPromise a (refused 10 o) a.bounds
+    refused_over e = planned_over a ready right (rw lent at e)
 
-        refused_over : o < length kinds → PlanPromise loans (refused 10 o) bounds
-        refused_over h = planned_over _ ready all_right over h
-
-        done : length kinds ≤ o → {filled out : List ℕ} (others : List ℕ)
-            → (length kinds ≤ o → filled ≡ bounds_of p (records kinds lefts rights) (take inputs (take (length bounds - 0) (new ++ rest))))
-            → out ≡ take (length bounds - 0) (filled ++ others) → PlanPromise loans (refused 0 0) out
-        done h {filled} {out} others after written =
-            let all : filled ≡ bounds_all loans = rw lent at (after h) in
-            let long : length filled ≡ length bounds = ap length all ∙ bounds_kept _ ready in
-            planned_done _ ready all_right over h (written ∙ put_first _ filled others long ∙ all)
+    done : {filled out : List ℕ} (others : List ℕ)
+        → length (over_gates a.p a.circuit.gates (take a.inputs table)) ≤ first_true (over_gates a.p a.circuit.gates (take a.inputs table))
+        → filled ≡ bounds_of a.p a.circuit.gates (take a.inputs table) → out ≡ take (length a.bounds) (filled ++ others) → PlanPromise a (refused 0 0) out
+    done {filled} others fit after written =
+        let all : filled ≡ bounds_all a = rw lent at after in
+        let long : length filled ≡ length a.bounds = ap length all ∙ bounds_kept a ready in
+        planned_done a ready right (rw lent at fit) (written ∙ take_at filled others (length a.bounds) long ∙ all)
 
 pub returns-then-number-ne0 : goal.returns-then-number-ne0
-returns-then-number-ne0 c = planned_early _ c.plan_number-number.ensures c.if-number-ne0.true
+returns-then-number-ne0 g c = planned_early _ c.plan_number-number.ensures c.if-number-ne0.true
 
-pub first_wrong-wrong-requires : goal.first_wrong-wrong-requires
-first_wrong-wrong-requires c = lists _ _ _ _ _ _ c.plan_number-number.ensures c.if-number-ne0.false
+pub first_wrong-requires : goal.first_wrong-requires
+first_wrong-requires g c = circuit _ (g.met.C.Gates.sized _) c.plan_number-number.ensures c.if-number-ne0.false
 
-pub returns-then-wrong-gates : goal.returns-then-wrong-gates
-returns-then-wrong-gates c = planned_wrong _ (ready _ _ _ _ _ _ c.plan_number-number.ensures c.if-number-ne0.false) c.first_wrong-wrong.ensures c.if-wrong-gates.true
+pub returns-in-Some : goal.returns-in-Some
+returns-in-Some g c = planned_wrong _ (ready _ (g.met.C.Gates.sized _) c.plan_number-number.ensures c.if-number-ne0.false) c.in-Some.ensures
 
 pub slice_bounds-table-end : goal.slice_bounds-table-end
-slice_bounds-table-end c =
-    let l = lists _ _ _ _ _ _ c.plan_number-number.ensures c.if-number-ne0.false in
-    let r = ready _ _ _ _ _ _ c.plan_number-number.ensures c.if-number-ne0.false in
-    omega (arith, l.inputs_high, l.gates_high, r.passed.bounds_long)
+slice_bounds-table-end g c = short _ (g.met.C.Gates.sized _) c.plan_number-number.ensures c.if-number-ne0.false
 
-pub settle-over-requires : goal.settle-over-requires
-settle-over-requires c =
-    to_settle _ _ _ _ _ _ c.plan_number-number.ensures c.if-number-ne0.false c.first_wrong-wrong.ensures c.if-wrong-gates.false c.copy_bounds.ensures _
+pub slice_bounds-copy_from_slice-end : goal.slice_bounds-copy_from_slice-end
+slice_bounds-copy_from_slice-end g c = sym (length-take-le _ _ (short _ (g.met.C.Gates.sized _) c.plan_number-number.ensures c.if-number-ne0.false))
 
-pub returns-then-over-gates : goal.returns-then-over-gates
-returns-then-over-gates c =
-    refused_over _ _ _ _ _ _ c.plan_number-number.ensures c.if-number-ne0.false c.first_wrong-wrong.ensures c.if-wrong-gates.false c.copy_bounds.ensures _
-    c.settle-over.ensures.answer c.if-over-gates.true
+pub copy_from_slice-requires : goal.copy_from_slice-requires
+copy_from_slice-requires g c = length-take-le _ _ (short _ (g.met.C.Gates.sized _) c.plan_number-number.ensures c.if-number-ne0.false)
+
+pub settle-requires : goal.settle-requires
+settle-requires g c =
+    to_settle _ (g.met.C.Gates.sized _) c.plan_number-number.ensures c.if-number-ne0.false c.in_default.ensures c.copy_from_slice.ensures.after _
+
+pub returns-in-Some-settle : goal.returns-in-Some-settle
+returns-in-Some-settle g c =
+    refused_over _ (g.met.C.Gates.sized _) c.plan_number-number.ensures c.if-number-ne0.false c.in_default.ensures c.copy_from_slice.ensures.after _
+    c.in-Some-settle.ensures.over
 
 pub returns : goal.returns
-returns c =
-    done _ _ _ _ _ _ c.plan_number-number.ensures c.if-number-ne0.false c.first_wrong-wrong.ensures c.if-wrong-gates.false c.copy_bounds.ensures _
-    c.settle-over.ensures.answer c.if-over-gates.false _ c.settle-over.ensures.table_after c.copy_bounds-2.ensures
+returns g c =
+    done _ (g.met.C.Gates.sized _) c.plan_number-number.ensures c.if-number-ne0.false c.in_default.ensures c.copy_from_slice.ensures.after _ _
+    c.in_default-settle.ensures.over c.in_default-settle.ensures.table_after c.copy_from_slice-2.ensures.after

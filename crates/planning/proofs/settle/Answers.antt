@@ -1,54 +1,52 @@
--- `planning::settle` fills the table and answers the first gate over the budget. Leans on the laws of `Settled`. Operands lie below `own` since no gate is
--- wrong (`gates_below`).
-use Rattle.std.proofs.Common.{◌≡◌, List, ℕ, ◌+◌, ◌*◌, ◌≤◌, ◌<◌, length, get_or, set, arith}
+-- `planning::settle` fills the table and answers the first gate over the budget. Leans on the laws of `Settled`. Operands lie below the gate's own wire since
+-- no gate is wrong (`gate_below`).
+use Rattle.std.proofs.Common.{◌≡◌, sym, ◌∙◌, List, ℕ, ◌+◌, ◌*◌, ◌≤◌, ◌<◌, length, get_or, take, set, arith}
 use Rattle.refusal.specs.declared.Params.{Params}
 use Rattle.refusal.specs.First.{first_true}
 use Rattle.scheme.specs.Arithmetic.{XOR_bound, AND_bound, NOT_bound}
 use Rattle.circuit.specs.declared.Gate.{Gate}
-use Rattle.circuit.specs.Circuits.{gate, by_kind, as_lists}
+use Rattle.circuit.specs.Circuits.{Circuit, gate, by_kind}
 use Rattle.circuit.specs.Plan.{PlanLoans, plan_loans}
-use Rattle.circuit.specs.Records.{Below, length_records, get_or_records, gates_below}
+use Rattle.circuit.specs.Records.{Below, gate_below}
+use Rattle.circuit.specs.Wires.{gate_right}
+use Rattle.circuit.proofs.Records.{length_over_gates}
 use Rattle.bound.specs.Ready.{AndBoundReady}
 use Rattle.planning.specs.Ready.{SettleReady}
 use Rattle.planning.proofs.Settling.{bounds_all, over_all, Settled, settled_start, settled_fits, settled_bound, settled_over, settled_step, settled_end}
 use Rattle.planning.proofs.settle.Goals as goal
 
-module _ {p : Params} {inputs : ℕ} {kinds lefts rights found : List ℕ} (r : SettleReady p inputs kinds lefts rights found) where
-  -- what is planned: the table has room for all its gates, of which there are as many as kinds
+module _ {p : Params} {inputs : ℕ} {circuit : Circuit} {found : List ℕ} (r : SettleReady p inputs circuit found) (many : length circuit.gates ≡ circuit.count) where
+  -- what is planned: the table has room for all its gates
   abbrev loans : PlanLoans
-  loans = plan_loans p inputs (as_lists kinds lefts rights) found
-
-  many : length loans.circuit.gates ≡ loans.circuit.count
-  many = length_records _ _ _ r.lists.lefts_long r.lists.rights_long
+  loans = plan_loans p inputs circuit found
 
   room : length loans.bounds ≡ loans.inputs + length loans.circuit.gates
   room = omega (arith, r.room, many)
 
-  start : Settled loans found inputs 0
+  start : Settled loans found 0
   start = settled_start loans room r.fit
 
-  module _ {table : List ℕ} {own g : ℕ} (s : Settled loans table own g) where
-    past : length kinds ≤ g → (g ≡ first_true (over_all loans)) × (table ≡ bounds_all loans)
-    past h = settled_end loans room s (omega (arith, many))
+  module _ {table : List ℕ} {g : ℕ} (s : Settled loans table g) where
+    past : circuit.count ≤ g → (length (over_all loans) ≤ first_true (over_all loans)) × (table ≡ bounds_all loans)
+    past h =
+        let (none, all) = settled_end loans room s (omega (arith, many)) in
+        (omega (arith, none, many, length_over_gates p circuit.gates (take inputs found)), all)
 
-    module _ (here : g < length kinds) where
-      -- the gate of the turn, and where its operands lie
-      abbrev turn : Gate
-      turn = gate (get_or kinds g 0) (get_or lefts g 0) (get_or rights g 0)
+    module _ (here : g < circuit.count) {turn : Gate} (read : turn ≡ get_or circuit.gates g (gate 0 0 0)) where
+      -- where the operands of the turn's gate lie
+      below : Below (inputs + g) turn
+      below = gate_below _ turn (rw read (gate_right inputs circuit.gates g (gate 0 0 0) r.gates_right (omega (arith, many))))
 
-      below : Below own turn
-      below = gates_below inputs own kinds lefts rights g s.wire r.lists.lefts_long r.lists.rights_long here r.gates_right
+      inside : inputs + g < length table
+      inside = omega (arith, s.kept, r.room)
 
-      inside : own < length table
-      inside = omega (arith, s.wire, s.kept, r.room)
-
-      left_inside : get_or lefts g 0 < length table
+      left_inside : turn.left < length table
       left_inside = omega (arith, below.left_below, inside)
 
-      right_inside : get_or rights g 0 < length table
+      right_inside : turn.right < length table
       right_inside = omega (arith, below.right_below, inside)
 
-      operands : AndBoundReady p (get_or table (get_or lefts g 0) 0) (get_or table (get_or rights g 0) 0)
+      operands : AndBoundReady p (get_or table turn.left 0) (get_or table turn.right 0)
       operands =
           record {
             range = r.range;
@@ -56,42 +54,44 @@ module _ {p : Params} {inputs : ℕ} {kinds lefts rights found : List ℕ} (r : 
             right_fits = settled_fits loans room s _ below.right_below;
           }
 
-      -- the bound worked out is that of the wire `own`
+      -- the bound worked out is that of the gate's wire
       module _ {x : ℕ}
-          (made : x ≡ (let B1 = get_or table (get_or lefts g 0) 0 in
-          let B2 = get_or table (get_or rights g 0) 0 in
-          by_kind (get_or kinds g 0) (XOR_bound B1 B2) (AND_bound p.n p.q p.l p.f B1 B2) (NOT_bound B1))) where
-        settled : x ≡ get_or (bounds_all loans) own 0
-        settled =
-            let e = get_or_records kinds lefts rights g (gate 0 0 0) r.lists.lefts_long r.lists.rights_long here in
-            rw (settled_bound loans room s (gate 0 0 0) turn e (omega (arith, many)) below) made
+          (made : x ≡ (let B1 = get_or table turn.left 0 in
+          let B2 = get_or table turn.right 0 in
+          by_kind turn.kind (XOR_bound B1 B2) (AND_bound p.n p.q p.l p.f B1 B2) (NOT_bound B1))) where
+        settled : x ≡ get_or (bounds_all loans) (inputs + g) 0
+        settled = made ∙ sym (settled_bound loans room s (gate 0 0 0) turn (sym read) (omega (arith, many)) below)
 
-        over : p.q ≤ 4 * x → g ≡ first_true (over_all loans)
-        over h = settled_over loans room s (omega (arith, many)) (omega (arith, settled))
+        over : p.q ≤ 4 * x → (g ≡ first_true (over_all loans)) × (g < length (over_all loans))
+        over h = (settled_over loans room s (omega (arith, many)) (omega (arith, settled)), omega (arith, here, many, length_over_gates p circuit.gates (take inputs found)))
 
-        next : 4 * x < p.q → Settled loans (set table own x) (own + 1) (g + 1)
+        next : 4 * x < p.q → Settled loans (set table (inputs + g) x) (g + 1)
         next h = settled_step loans room s x (omega (arith, many)) settled h
 
 pub loop-g-init : goal.loop-g-init
-loop-g-init c = start c.requires
+loop-g-init g c = start c.requires (g.met.C.Gates.sized _ c.requires.circuit.even)
 
-pub bounds-table-lefts : goal.bounds-table-lefts
-bounds-table-lefts c = left_inside c.requires c.loop-g.invariant c.loop-g-test.true
+pub bounds-table-gate : goal.bounds-table-gate
+bounds-table-gate g c = left_inside c.requires (g.met.C.Gates.sized _ c.requires.circuit.even) c.loop-g.invariant (omega (arith, c.count-g-end.ensures, c.loop-g-test.true)) c.gate-gate.ensures
 
-pub bounds-table-rights : goal.bounds-table-rights
-bounds-table-rights c = right_inside c.requires c.loop-g.invariant c.loop-g-test.true
+pub bounds-table-gate-in-loop-g : goal.bounds-table-gate-in-loop-g
+bounds-table-gate-in-loop-g g c = right_inside c.requires (g.met.C.Gates.sized _ c.requires.circuit.even) c.loop-g.invariant (omega (arith, c.count-g-end.ensures, c.loop-g-test.true)) c.gate-gate.ensures
 
 pub gate_bound-bound-requires : goal.gate_bound-bound-requires
-gate_bound-bound-requires c = operands c.requires c.loop-g.invariant c.loop-g-test.true
+gate_bound-bound-requires g c = operands c.requires (g.met.C.Gates.sized _ c.requires.circuit.even) c.loop-g.invariant (omega (arith, c.count-g-end.ensures, c.loop-g-test.true)) c.gate-gate.ensures
 
-pub returns-then-p-bound-clause-answer : goal.returns-then-p-bound-clause-answer
-returns-then-p-bound-clause-answer c = over c.requires c.loop-g.invariant c.loop-g-test.true c.gate_bound-bound.ensures.0 c.if-p-bound.true
+pub returns-then-p-bound-clause-over : goal.returns-then-p-bound-clause-over
+returns-then-p-bound-clause-over g c =
+    over c.requires (g.met.C.Gates.sized _ c.requires.circuit.even) c.loop-g.invariant (omega (arith, c.count-g-end.ensures, c.loop-g-test.true)) c.gate-gate.ensures
+    c.gate_bound-bound.ensures.0 c.if-p-bound.true
 
 pub loop-g-preserved : goal.loop-g-preserved
-loop-g-preserved c = next c.requires c.loop-g.invariant c.loop-g-test.true c.gate_bound-bound.ensures.0 c.if-p-bound.false
+loop-g-preserved g c =
+    next c.requires (g.met.C.Gates.sized _ c.requires.circuit.even) c.loop-g.invariant (omega (arith, c.count-g-end.ensures, c.loop-g-test.true)) c.gate-gate.ensures
+    c.gate_bound-bound.ensures.0 c.if-p-bound.false
 
-pub returns-clause-answer : goal.returns-clause-answer
-returns-clause-answer c = (past c.requires c.loop-g.invariant c.loop-g-test.false).0
+pub returns-clause-over : goal.returns-clause-over
+returns-clause-over g c = (past c.requires (g.met.C.Gates.sized _ c.requires.circuit.even) c.loop-g.invariant (omega (arith, c.count-g-end.ensures, c.loop-g-test.false))).0
 
 pub returns-clause-table_after : goal.returns-clause-table_after
-returns-clause-table_after c h = (past c.requires c.loop-g.invariant c.loop-g-test.false).1
+returns-clause-table_after g c = (past c.requires (g.met.C.Gates.sized _ c.requires.circuit.even) c.loop-g.invariant (omega (arith, c.count-g-end.ensures, c.loop-g-test.false))).1
