@@ -1,9 +1,8 @@
--- The stretch of one wire: what is written over it, and what the operands of a gate are once they are copied.
-use Rattle.std.proofs.Common.{◌≡◌, sym, ap, ◌∙◌, true, List, [], ◌++◌, ℕ, ◌+◌, ◌*◌, ◌-◌, ◌≤◌, arith, length, take, drop, drop-drop}
+-- The stretch of one wire, and the operands of its gate, which lie before it.
+use Rattle.std.proofs.Common.{◌≡◌, sym, ◌∙◌, true, List, [], ◌++◌, ℕ, ◌+◌, ◌*◌, ◌-◌, ◌≤◌, arith, length, take, drop, drop-drop}
 use lib.IntN.{ℤ}
 use Rattle.std.proofs.Math.Nat.{add-sub_cancel_left}
-use borrow.Rule.Slice.PartMut.{put_mid, mid_len}
-use Rattle.whole.specs.Lists.{every, cut, get_or_cut}
+use Rattle.whole.specs.Lists.{every, cut, get_or_cut, part_take}
 use Rattle.refusal.specs.declared.Params.{Params}
 use Rattle.scheme.specs.Arithmetic.{is_residue, XOR, NOT, AND}
 use Rattle.circuit.specs.declared.Gate.{Gate}
@@ -11,24 +10,16 @@ use Rattle.circuit.specs.Circuits.{by_kind, gate_wire}
 use Rattle.circuit.specs.Records.{Below}
 use Rattle.circuit.specs.Wires.{Wire, part_wire, gate_makes}
 
-module _ {A : Type 0} where
-  -- the n entries that begin at `at` are n
-  pub part_long : (at n : ℕ) (wires : List A) → at + n ≤ length wires → length (take (at + n - at) (drop at wires)) ≡ n
-  part_long at n wires h = mid_len at (at + n) wires h ∙ add-sub_cancel_left at n
-
-  -- and what it is to write over them
-  pub part_written : (at n : ℕ) (wires new : List A) → put_mid at (at + n - at) wires new ≡ take at wires ++ (new ++ drop (at + n) wires)
-  part_written at n wires new = rw (add-sub_cancel_left, drop-drop)
-
--- x is what `copy` made of the wire that begins at a: it is that wire
+-- x is the wire that begins at a
 pub record Operand (p : Params) (a : ℕ) (wires x : List ℤ) : Type 0 where
   pub is : x ≡ take p.n (drop a wires)
   pub wire : Wire p x
 
-pub operand : (p : Params) (a at : ℕ) (wires : List ℤ) {x : List ℤ} → x ≡ take (a + p.n - a) (drop a wires) → a + p.n ≤ at → at + p.n ≤ length wires
-    → every (is_residue p.q) (take at wires) ≡ true → Operand p a wires x
-operand p a at wires e h g r =
-    let is = e ∙ ap (λ (k : ℕ). take k (drop a wires)) (add-sub_cancel_left a p.n) in
+-- so are the n entries from a on of those before `at`
+pub operand : (p : Params) (a at : ℕ) (wires before : List ℤ) → before ≡ take at wires → a + p.n ≤ at → at + p.n ≤ length wires
+    → every (is_residue p.q) (take at wires) ≡ true → Operand p a wires (take (a + p.n - a) (drop a before))
+operand p a at wires before e h g r =
+    let is : take (a + p.n - a) (drop a before) ≡ take p.n (drop a wires) = rw (e, add-sub_cancel_left) (part_take a p.n at wires h) in
     record { is = is; wire = rw is (part_wire p a at wires h (omega arith) r) }
 
 -- what a gate makes of its operands is its wire, of the wires before its own
@@ -40,3 +31,8 @@ made p W g own wires below left right e =
     ∙ gate_makes p W g.kind g.left g.right (cut p.n own wires)
     (left.is ∙ sym (get_or_cut p.n own wires g.left [] below.left_below))
     (right.is ∙ sym (get_or_cut p.n own wires g.right [] below.right_below))
+
+-- it is written at the front of what is not before `at`
+pub written : (at n : ℕ) (wires before behind : List ℤ) {new made : List ℤ} → before ≡ take at wires → behind ≡ drop at wires → new ≡ made
+    → before ++ (new ++ drop n behind) ≡ take at wires ++ (made ++ drop (at + n) wires)
+written at n wires before behind e f g = rw (e, f, g, drop-drop)

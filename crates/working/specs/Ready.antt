@@ -7,7 +7,7 @@ use Rattle.refusal.specs.First.{some_true}
 use Rattle.refusal.specs.Parameters.{InRange}
 use Rattle.scheme.specs.Arithmetic.{is_residue}
 use Rattle.circuit.specs.declared.Gate.{Gate}
-use Rattle.circuit.specs.Circuits.{wrong_gate, wrong_gates, records}
+use Rattle.circuit.specs.Circuits.{Circuit, wrong_gate, wrong_gates}
 use Rattle.circuit.specs.Wires.{Wire}
 
 -- the parameters, the switching key and the scratch, by which every gate is worked
@@ -22,26 +22,16 @@ pub key_kept : {p : Params} {W scratch new : List ℤ} → KeyReady p W scratch 
 key_kept r same = record { range = r.range; key_long = r.key_long; key_inside = r.key_inside; scratch_long = same ∙ r.scratch_long }
 
 -- a circuit: the buffer has room for each wire, the inputs are there, and no gate is wrong
-pub record EvaluateReady (p : Params) (inputs : ℕ) (ks ls rs : List ℕ) (wires W scratch : List ℤ) : Type 0 where
+pub record EvaluateReady (p : Params) (inputs : ℕ) (c : Circuit) (wires W scratch : List ℤ) : Type 0 where
   pub key : KeyReady p W scratch
-  pub lefts_long : length ls ≡ length ks
-  pub rights_long : length rs ≡ length ks
-  pub wires_long : length wires ≡ (inputs + length ks) * p.n
+  pub even : c.uneven ≡ false
+  pub wires_long : length wires ≡ (inputs + c.count) * p.n
   pub inside : every (is_residue p.q) (take (inputs * p.n) wires) ≡ true
-  pub gates_right : some_true (wrong_gates inputs (records ks ls rs)) ≡ false
-
--- room for the operands of a gate
-pub record RoomReady (p : Params) (c d : List ℤ) : Type 0 where
-  pub left_long : length c ≡ p.n
-  pub right_long : length d ≡ p.n
-
-pub room_kept : {p : Params} {c d new other : List ℤ} → RoomReady p c d → length new ≡ length c → length other ≡ length d → RoomReady p new other
-room_kept r left right = record { left_long = left ∙ r.left_long; right_long = right ∙ r.right_long }
+  pub gates_right : some_true (wrong_gates inputs c.gates) ≡ false
 
 -- the gate that makes the wire `own`: it is not wrong, the wires before its own are there, and the buffer has room for its own
-pub record WorkGateReady (p : Params) (g : Gate) (own : ℕ) (wires W c d scratch : List ℤ) : Type 0 where
+pub record WorkGateReady (p : Params) (g : Gate) (own : ℕ) (wires W scratch : List ℤ) : Type 0 where
   pub key : KeyReady p W scratch
-  pub room : RoomReady p c d
   pub own_inside : own * p.n + p.n ≤ length wires
   pub inside : every (is_residue p.q) (take (own * p.n) wires) ≡ true
   pub gate_right : wrong_gate own g ≡ false
