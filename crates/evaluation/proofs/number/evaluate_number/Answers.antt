@@ -1,7 +1,6 @@
 -- `number::evaluate_number` gives the number of the first row of evaluation that applies of those before planning's, each return by what the tests and `row`
 -- ensure. Past 2 the counts are small, so that no product wraps, and past 3 the inputs' wires lie within the buffer.
-use Rattle.std.proofs.Common.{◌≡◌, refl, sym, ap, ◌∙◌, Bool, true, false, not, ◌||◌, List, ℕ, ◌+◌, ◌*◌, ◌≤◌, ℤ, length, mul-le-mul, mul-le-mul_right, arith}
-use Rattle.std.proofs.Math.Nat.{sub-zero}
+use Rattle.std.proofs.Common.{◌≡◌, refl, sym, ap, ◌∙◌, Bool, true, false, not, ◌||◌, List, ℕ, ◌+◌, ◌*◌, ◌≤◌, ℤ, length, length-take-le, mul-le-mul, mul-le-mul_right, arith}
 use Rattle.whole.specs.Tests.{or_left, or_right}
 use Rattle.refusal.specs.declared.Params.{Params}
 use Rattle.refusal.specs.Parameters.{in_range, InRange}
@@ -9,16 +8,15 @@ use Rattle.refusal.specs.First.{Row}
 use Rattle.scheme.specs.Calls.{differs}
 use Rattle.scheme.specs.Passed.{length_is}
 use Rattle.keys.specs.Chain.{params_modulus, params_tested, answered_range, given, stops, passes, asks, no_rows, or_same}
-use Rattle.circuit.specs.Circuits.{bad_counts, as_lists, uneven_lists}
+use Rattle.circuit.specs.Circuits.{Circuit, bad_counts}
 use Rattle.circuit.specs.Plan.{plan_loans, wire_count}
 use Rattle.circuit.specs.Evaluate.{EvaluateLoans, evaluate_loans, evaluate_front}
 use Rattle.circuit.specs.Answers.{inputs_within, gates_within}
 use Rattle.evaluation.proofs.number.evaluate_number.Goals as goal
 
 -- the rows before planning's, of what is lent
-abbrev front : Params → ℕ → (kinds lefts rights bounds : List ℕ) → (wires W scratch : List ℤ) → List Row
-front p inputs kinds lefts rights bounds wires W scratch =
-    evaluate_front (evaluate_loans (plan_loans p inputs (as_lists kinds lefts rights) bounds) wires W scratch)
+abbrev front : Params → ℕ → Circuit → List ℕ → (wires W scratch : List ℤ) → List Row
+front p inputs circuit bounds wires W scratch = evaluate_front (evaluate_loans (plan_loans p inputs circuit bounds) wires W scratch)
 
 -- past 1
 range : {p : Params} {t : Bool} → t ≡ in_range p → t ≡ true → InRange p
@@ -35,10 +33,9 @@ total_fits inputs gates r second good =
     let few : inputs + gates ≤ 5120 = omega (arith, inputs_within inputs gates counts, gates_within inputs gates counts) in
     mul-le-mul few r.n_high
 
--- six tests, those of the two lists that have the gates' length first
-lengths_same : {a b c d e f a' b' c' d' e' f' : Bool} → a ≡ a' → b ≡ b' → c ≡ c' → d ≡ d' → e ≡ e' → f ≡ f'
-    → (a || b || c || d || e || f) ≡ ((a' || b') || c' || d' || e' || f')
-lengths_same a b c d e f = or_same (or_same (or_same (or_same (or_same a b) c) d) e) f
+-- five tests
+lengths_same : {a b c d e a' b' c' d' e' : Bool} → a ≡ a' → b ≡ b' → c ≡ c' → d ≡ d' → e ≡ e' → (a || b || c || d || e) ≡ (a' || b' || c' || d' || e')
+lengths_same a b c d e = or_same (or_same (or_same (or_same a b) c) d) e
 
 -- 3: the lengths that are compared
 module _ (a : EvaluateLoans) {t : Bool}
@@ -59,58 +56,59 @@ module _ (a : EvaluateLoans) {t : Bool}
 
 pub returns-then-not-in_range : goal.returns-then-not-in_range
 unfolding evaluate_front
-returns-then-not-in_range c =
-    given (front c.args.p c.args.inputs c.args.kinds.now c.args.lefts.now c.args.rights.now c.args.bounds.now c.args.wires.now c.args.key.now c.args.scratch.now)
+returns-then-not-in_range g c =
+    given (front c.args.p c.args.inputs (g.C.Gates.lent c.args.circuit.now) c.args.bounds.now c.args.wires.now c.args.key.now c.args.scratch.now)
     (stops (sym (params_tested _ c.in_range.ensures refl)) (ap not c.if-not-in_range.true))
 
 pub returns-then-are_bad_counts : goal.returns-then-are_bad_counts
 unfolding evaluate_front
-returns-then-are_bad_counts c =
-    given (front c.args.p c.args.inputs c.args.kinds.now c.args.lefts.now c.args.rights.now c.args.bounds.now c.args.wires.now c.args.key.now c.args.scratch.now)
+returns-then-are_bad_counts g c =
+    given (front c.args.p c.args.inputs (g.C.Gates.lent c.args.circuit.now) c.args.bounds.now c.args.wires.now c.args.key.now c.args.scratch.now)
     (passes (sym (params_tested _ c.in_range.ensures refl)) (ap not c.if-not-in_range.false)
-    (stops c.are_bad_counts.ensures c.if-are_bad_counts.true))
+    (stops (rw c.count-gates.ensures at c.are_bad_counts.ensures) c.if-are_bad_counts.true))
+
+pub overflow_add-total : goal.overflow_add-total
+overflow_add-total g c =
+    let counts = sym c.are_bad_counts.ensures ∙ c.if-are_bad_counts.false in
+    omega (arith, inputs_within _ _ counts, gates_within _ _ counts)
 
 pub overflow_mul-total : goal.overflow_mul-total
-overflow_mul-total c = omega (arith, total_fits _ _ (range c.in_range.ensures c.if-not-in_range.false) c.are_bad_counts.ensures c.if-are_bad_counts.false)
+overflow_mul-total g c = omega (arith, total_fits _ _ (range c.in_range.ensures c.if-not-in_range.false) c.are_bad_counts.ensures c.if-are_bad_counts.false)
 
 pub overflow_mul-n : goal.overflow_mul-n
-overflow_mul-n c = omega (arith, cube_fits (range c.in_range.ensures c.if-not-in_range.false))
+overflow_mul-n g c = omega (arith, cube_fits (range c.in_range.ensures c.if-not-in_range.false))
 
-pub returns-then-length_differs : goal.returns-then-length_differs
-unfolding evaluate_front uneven_lists
-returns-then-length_differs c =
-    given (front c.args.p c.args.inputs c.args.kinds.now c.args.lefts.now c.args.rights.now c.args.bounds.now c.args.wires.now c.args.key.now c.args.scratch.now)
+pub returns-then-is_uneven-length_differs : goal.returns-then-is_uneven-length_differs
+unfolding evaluate_front
+returns-then-is_uneven-length_differs g c =
+    given (front c.args.p c.args.inputs (g.C.Gates.lent c.args.circuit.now) c.args.bounds.now c.args.wires.now c.args.key.now c.args.scratch.now)
     (passes (sym (params_tested _ c.in_range.ensures refl)) (ap not c.if-not-in_range.false)
-    (passes c.are_bad_counts.ensures c.if-are_bad_counts.false
+    (passes (rw c.count-gates.ensures at c.are_bad_counts.ensures) c.if-are_bad_counts.false
     (stops
-    (lengths_same c.length_differs.ensures c.length_differs-2.ensures c.length_differs-3.ensures c.length_differs-4.ensures c.length_differs-5.ensures
-    c.length_differs-6.ensures)
-    c.if-length_differs.true)))
+    (lengths_same c.is_uneven.ensures (rw c.count-gates.ensures at c.length_differs.ensures) (rw c.count-gates.ensures at c.length_differs-2.ensures) c.length_differs-3.ensures c.length_differs-4.ensures)
+    c.if-is_uneven-length_differs.true)))
 
 pub slice_bounds-is_outside-end : goal.slice_bounds-is_outside-end
-unfolding uneven_lists
-slice_bounds-is_outside-end c =
+slice_bounds-is_outside-end g c =
     let a = c.args in
     let loans : EvaluateLoans =
-    evaluate_loans (plan_loans a.p a.inputs (as_lists a.kinds.now a.lefts.now a.rights.now) a.bounds.now) a.wires.now a.key.now a.scratch.now in
-    let lengths = lengths_same c.length_differs.ensures c.length_differs-2.ensures c.length_differs-3.ensures c.length_differs-4.ensures c.length_differs-5.ensures
-    c.length_differs-6.ensures in
-    omega (arith, inputs_inside loans lengths c.if-length_differs.false)
+    evaluate_loans (plan_loans a.p a.inputs (g.C.Gates.lent a.circuit.now) a.bounds.now) a.wires.now a.key.now a.scratch.now in
+    let lengths = lengths_same c.is_uneven.ensures (rw c.count-gates.ensures at c.length_differs.ensures) (rw c.count-gates.ensures at c.length_differs-2.ensures) c.length_differs-3.ensures c.length_differs-4.ensures in
+    sym (length-take-le _ _ (inputs_inside loans lengths c.if-is_uneven-length_differs.false))
 
 pub is_outside-requires : goal.is_outside-requires
-is_outside-requires c = params_modulus (range c.in_range.ensures c.if-not-in_range.false)
+is_outside-requires g c = params_modulus (range c.in_range.ensures c.if-not-in_range.false)
 
 pub is_outside_big-requires : goal.is_outside_big-requires
-is_outside_big-requires c = params_modulus (range c.in_range.ensures c.if-not-in_range.false)
+is_outside_big-requires g c = params_modulus (range c.in_range.ensures c.if-not-in_range.false)
 
 pub returns : goal.returns
-unfolding evaluate_front uneven_lists
-returns c =
-    given (front c.args.p c.args.inputs c.args.kinds.now c.args.lefts.now c.args.rights.now c.args.bounds.now c.args.wires.now c.args.key.now c.args.scratch.now)
+unfolding evaluate_front
+returns g c =
+    given (front c.args.p c.args.inputs (g.C.Gates.lent c.args.circuit.now) c.args.bounds.now c.args.wires.now c.args.key.now c.args.scratch.now)
     (passes (sym (params_tested _ c.in_range.ensures refl)) (ap not c.if-not-in_range.false)
-    (passes c.are_bad_counts.ensures c.if-are_bad_counts.false
+    (passes (rw c.count-gates.ensures at c.are_bad_counts.ensures) c.if-are_bad_counts.false
     (passes
-    (lengths_same c.length_differs.ensures c.length_differs-2.ensures c.length_differs-3.ensures c.length_differs-4.ensures c.length_differs-5.ensures
-    c.length_differs-6.ensures)
-    c.if-length_differs.false
-    (asks c.row.ensures (or_same (rw sub-zero at c.is_outside.ensures) c.is_outside_big.ensures) no_rows))))
+    (lengths_same c.is_uneven.ensures (rw c.count-gates.ensures at c.length_differs.ensures) (rw c.count-gates.ensures at c.length_differs-2.ensures) c.length_differs-3.ensures c.length_differs-4.ensures)
+    c.if-is_uneven-length_differs.false
+    (asks c.row.ensures (or_same c.is_outside.ensures c.is_outside_big.ensures) no_rows))))
