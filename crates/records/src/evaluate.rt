@@ -2,9 +2,9 @@ ghost use Rattle.circuit.specs.Circuits.{as_records};
 ghost use Rattle.circuit.specs.Plan.{plan_loans};
 ghost use Rattle.circuit.specs.Evaluate.{evaluate_loans, EvaluatePromise};
 
-use crate::first::first_gates;
-use crate::lists::evaluate_first;
+use crate::Records;
 use circuit::Gate;
+use evaluation::evaluate;
 use refusal::{Params, Refusal};
 
 // Evaluation of a run of gate records: the wires of the gates behind those of the inputs, and their bounds; the scratch is zeroed. Refusals
@@ -20,14 +20,5 @@ pub fn evaluate_gates(
 ) -> Refusal
     ensures { EvaluatePromise (evaluate_loans (plan_loans p inputs (as_records gates.now) bounds.old) wires.old key.now scratch.old) result wires.new bounds.new scratch.new }
 {
-    evaluate_first(
-        p,
-        inputs,
-        first_gates(gates),
-        gates.len(),
-        wires,
-        bounds,
-        key,
-        scratch,
-    )
+    evaluate(p, inputs, &Records { gates }, wires, bounds, key, scratch)
 }

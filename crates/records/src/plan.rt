@@ -1,9 +1,9 @@
 ghost use Rattle.circuit.specs.Circuits.{as_records};
 ghost use Rattle.circuit.specs.Plan.{plan_loans, PlanPromise};
 
-use crate::first::first_gates;
-use crate::lists::plan_first;
+use crate::Records;
 use circuit::Gate;
+use planning::plan;
 use refusal::{Params, Refusal};
 
 // Planning of a run of gate records: the bounds of the gates behind those of the inputs. Refusals 1, 2, 3, 8, 9, 10; the place is the first
@@ -11,5 +11,5 @@ use refusal::{Params, Refusal};
 pub fn plan_gates(p: Params, inputs: u32, gates: &[Gate], bounds: &mut [u32]) -> Refusal
     ensures { PlanPromise (plan_loans p inputs (as_records gates.now) bounds.old) result bounds.new }
 {
-    plan_first(p, inputs, first_gates(gates), gates.len(), bounds)
+    plan(p, inputs, &Records { gates }, bounds)
 }
