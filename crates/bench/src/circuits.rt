@@ -4,6 +4,7 @@ ghost use Rattle.circuit.specs.Plan.{plan_loans};
 ghost use Rattle.circuit.specs.Evaluate.{evaluate_loans};
 ghost use Rattle.bench.specs.Numbers.{PlanNumber, EvaluateNumber};
 
+use checks::lent::Lists;
 use evaluation::evaluate;
 use planning::plan;
 use refusal::Params;
@@ -24,15 +25,12 @@ pub extern "C" fn bench_plan(
 ) -> u32
     ensures { PlanNumber (plan_loans (params n q l e f) inputs (as_lists kinds.now lefts.now rights.now) bounds.old) result bounds.new }
 {
-    plan(
-        Params { n, q, l, e, f },
-        inputs,
+    let listed = Lists {
         kinds,
         lefts,
         rights,
-        bounds,
-    )
-    .number
+    };
+    plan(Params { n, q, l, e, f }, inputs, &listed, bounds).number
 }
 
 // Evaluation on a set of any five numbers: answers the number.
@@ -54,12 +52,15 @@ pub extern "C" fn bench_evaluate(
 ) -> u32
     ensures { EvaluateNumber (evaluate_loans (plan_loans (params n q l e f) inputs (as_lists kinds.now lefts.now rights.now) bounds.old) wires.old key.now scratch.old) result wires.new bounds.new scratch.new }
 {
-    evaluate(
-        Params { n, q, l, e, f },
-        inputs,
+    let listed = Lists {
         kinds,
         lefts,
         rights,
+    };
+    evaluate(
+        Params { n, q, l, e, f },
+        inputs,
+        &listed,
         wires,
         bounds,
         key,

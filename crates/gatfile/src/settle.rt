@@ -5,6 +5,7 @@ ghost use Rattle.circuitfile.specs.File.{file_inputs, file_gate_count, head_rows
 ghost use Rattle.circuitfile.specs.Order.{gate_answer};
 ghost use Rattle.gatfile.specs.Settled.{file_kinds, file_lefts, file_rights, settled_bounds, bounds_answer};
 
+use checks::lent::Lists;
 use filehead::field::{one, two};
 use filehead::{HEAD, gate_count, head_number, inputs, params, wire_count};
 use refusal::Refusal;
@@ -70,7 +71,12 @@ fn plan_listed(
     let count = inputs(file);
     let from = count as usize;
     fill(p.e, &mut table[0..from]);
-    planning::plan(p, count, kinds, lefts, rights, table)
+    let listed = Lists {
+        kinds,
+        lefts,
+        rights,
+    };
+    planning::plan(p, count, &listed, table)
 }
 
 // The same, with room for the gates.

@@ -6,6 +6,7 @@ ghost use Rattle.stream.specs.Bounds.{Placed};
 use crate::lending;
 use calls::read::{MIDDLE, WIRES};
 use calls::{lent, print};
+use checks::lent::Lists;
 use refusal::Refusal;
 use std::io::Write;
 
@@ -32,14 +33,12 @@ fn plan_listed(call: &[i64], bounds: &mut [u32]) -> Refusal {
     let k = lent::words(call, 7, &mut kinds);
     let l = lent::words(call, at_lefts, &mut lefts);
     let r = lent::words(call, lent::past(call, at_lefts), &mut rights);
-    planning::plan(
-        lent::params(call),
-        lent::word(call, 6),
-        &kinds[0..k],
-        &lefts[0..l],
-        &rights[0..r],
-        bounds,
-    )
+    let listed = Lists {
+        kinds: &kinds[0..k],
+        lefts: &lefts[0..l],
+        rights: &rights[0..r],
+    };
+    planning::plan(lent::params(call), lent::word(call, 6), &listed, bounds)
 }
 
 // Plans, with the gates as records.
@@ -100,12 +99,15 @@ fn evaluate_listed(
     let k = lent::words(call, 7, &mut kinds);
     let l = lent::words(call, at_lefts, &mut lefts);
     let r = lent::words(call, lent::past(call, at_lefts), &mut rights);
+    let listed = Lists {
+        kinds: &kinds[0..k],
+        lefts: &lefts[0..l],
+        rights: &rights[0..r],
+    };
     evaluation::evaluate(
         lent::params(call),
         lent::word(call, 6),
-        &kinds[0..k],
-        &lefts[0..l],
-        &rights[0..r],
+        &listed,
         wires,
         bounds,
         key,
