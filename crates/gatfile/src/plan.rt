@@ -3,7 +3,6 @@ ghost use Rattle.std.specs.Prelude.{◌≡◌, ◌+◌, ◌*◌, ◌≤◌, ◌<
 ghost use mathlib.Core.List.{flat_map};
 ghost use Rattle.circuitfile.specs.File.{four_bytes, plan_file_buffer, CheckPromise, PlanFilePromise};
 ghost use Rattle.circuitfile.specs.Order.{plan_refusal};
-ghost use Rattle.gatfile.specs.Writing.{Written};
 
 use crate::settle::{WIRES, bounds, settle};
 use filehead::{head_number, wire_count};
@@ -17,28 +16,13 @@ fn answer(r: Refusal) -> u64
     65536 * (r.number as u64) + r.place
 }
 
-// Writes a number as four big-endian bytes.
-fn write_four(x: u32, at: usize, out: &mut [u8])
-    requires { at + 4 ≤ length out.old }
-    ensures { Written (four_bytes x) out.old out.new at (at + 4) }
-{
-    out[at] = (x / 16777216 % 256) as u8;
-    out[at + 1] = (x / 65536 % 256) as u8;
-    out[at + 2] = (x / 256 % 256) as u8;
-    out[at + 3] = (x % 256) as u8;
-}
-
 // Writes each bound as four big-endian bytes.
 fn write_bounds(bounds: &[u32], out: &mut [u8])
     requires { length out.old ≡ 4 * length bounds.now }
     ensures { out.new ≡ flat_map four_bytes bounds.now }
 {
-    let mut at = 0;
-    let mut i = 0;
-    while i < bounds.len() {
-        write_four(bounds[i], at, out);
-        at += 4;
-        i += 1;
+    for (i, bound) in bounds.iter().enumerate() {
+        out[4 * i..4 * i + 4].copy_from_slice(&bound.to_be_bytes());
     }
 }
 
