@@ -1,3 +1,3 @@
-pub mod Beyond
+pub mod Rows
 pub mod Sums
 pub mod Tops

@@ -1,8 +1,8 @@
 -- Sums of products in a signed word of 64 bits: the invariant of a loop that adds one product after the other (`Summed`), and what one of its turns leaves to
 -- be shown (`Turn`). Leans on whole's bounds on the size of an inner product. Assumes nothing.
-use Rattle.std.proofs.Common.{◌≡◌, ℕ, ◌+◌, ◌*◌, ◌<◌, ◌≤◌, List, length, get_or, take, ℤ, pos, ◌+ℤ◌, ◌*ℤ◌, nat_abs, refl, ◌∙◌, add-one, arith, to_z-of_z, w32, w64, SFits}
+use Rattle.std.proofs.Common.{◌≡◌, ℕ, ◌+◌, ◌*◌, ◌<◌, ◌≤◌, List, length, get_or, take, ℤ, pos, ◌+ℤ◌, ◌*ℤ◌, nat_abs, refl, ◌∙◌, add-one, arith, to_z-of_z, w64, SFits}
 use Rattle.whole.specs.Size.{size_add}
-use Rattle.whole.specs.Machine.{word, fits64, widened}
+use Rattle.whole.specs.Machine.{word, fits64}
 use Rattle.whole.specs.Inner.{inner, inner_every, inner_suc, inner_turn, sizes}
 use Rattle.scheme.specs.Loans.{UpTo}
 
@@ -35,9 +35,3 @@ turn {m} {s} {c} {i} {sum} {x} {y} f small e h k x-is y-is =
       total = simp (to_z-of_z, p) t;
       next = record { within = omega arith; so_far = simp (to_z-of_z, p, t) (simp (f.so_far, x-is, y-is, add-one, inner_suc)) };
     }
-
--- the same where x and y are read from entries of 32 and of 64 bits
-pub turn_entries : {m : ℕ} {s c : List ℤ} {i : ℕ} {sum : ℤ} → Summed s c sum i → sizes s * m < 9223372036854775808 → UpTo m c → i < length s → i < length c
-    → SFits w32 (get_or s i (pos 0)) → SFits w64 (get_or c i (pos 0))
-    → Turn s c i sum (word w64 (word w32 (get_or s i (pos 0)))) (word w64 (get_or c i (pos 0)))
-turn_entries f small e h k p q = turn f small e h k (widened p) (to_z-of_z q)

@@ -5,4 +5,3 @@
 pub mod buffer;
 pub mod key;
 pub mod range;
-mod size;

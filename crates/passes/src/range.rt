@@ -3,10 +3,7 @@ ghost use Rattle.whole.specs.Lists.{every};
 ghost use Rattle.scheme.specs.Arithmetic.{is_residue};
 ghost use Rattle.scheme.specs.Loans.{Modulus};
 
-use crate::size::{bits, size};
-use std::num::{wrapping_add_u64, wrapping_sub_u64};
-
-const TOP: u64 = 9223372036854775808;
+const TOP: u64 = 1 << 63;
 
 // Whether every entry is in -h to h-1: modulo 2^64 no x + h has the top bit and each x - h has it. No exit inside the pass, so that it
 // runs several entries at a time; x - h is made of x + h, which spares it a copy of x.
@@ -16,12 +13,10 @@ fn all_below(xs: &[i64], h: u64) -> bool
 {
     let mut some = 0;
     let mut each = u64::MAX;
-    let mut i = 0;
-    while i < xs.len() {
-        let raised = wrapping_add_u64(bits(xs[i]), h);
+    for x in xs {
+        let raised = x.cast_unsigned().wrapping_add(h);
         some |= raised;
-        each &= wrapping_sub_u64(raised, 2 * h);
-        i += 1;
+        each &= raised.wrapping_sub(2 * h);
     }
     (some < TOP) & (TOP <= each)
 }
@@ -31,7 +26,7 @@ pub fn all_residues(xs: &[i64], q: u32) -> bool
     requires { Modulus q }
     ensures { result ≡ every (is_residue q) xs.now }
 {
-    all_below(xs, (q as u64) / 2)
+    all_below(xs, u64::from(q) / 2)
 }
 
 // Whether every entry is in -Q/2 to Q/2-1, with Q = q².
@@ -39,7 +34,7 @@ pub fn all_big_residues(xs: &[i64], q: u32) -> bool
     requires { Modulus q }
     ensures { result ≡ every (is_residue (q * q)) xs.now }
 {
-    let wide = q as u64;
+    let wide = u64::from(q);
     all_below(xs, wide * wide / 2)
 }
 
@@ -47,12 +42,5 @@ pub fn all_big_residues(xs: &[i64], q: u32) -> bool
 pub fn all_within(errors: &[i64], limit: u32) -> bool
     ensures { result ≡ every (λ e. nat_le (unsigned_abs e) limit) errors.now }
 {
-    let room = TOP - 1 - (limit as u64);
-    let mut beyond: u64 = 0;
-    let mut i: usize = 0;
-    while i < errors.len() {
-        beyond += (size(errors[i]) + room) >> 63;
-        i += 1;
-    }
-    beyond == 0
+    errors.iter().all(|e| e.unsigned_abs() <= u64::from(limit))
 }

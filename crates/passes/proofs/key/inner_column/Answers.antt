@@ -1,38 +1,50 @@
 -- `inner_column` returns <s,column j> of a table in rows. That no product and no sum wraps follows from the invariant, as for `inner_product` (`turn` of Sums),
 -- since an entry of a column is one of the table (`each_column_cut`). Assumes nothing.
-use Rattle.std.proofs.Common.{◌≡◌, ◌+◌, ◌*◌, ◌≤◌, ◌<◌, ℕ, ℤ, List, length, get_or, pos, sym, ap, ◌∙◌, arith, rules, to_z-of_z, w32, w64, SFits}
-use Rattle.whole.specs.Inner.{column, get_or_column_cut, length_column_cut, each_column_cut, sizes}
+use Rattle.std.proofs.Common.{◌≡◌, ap, ◌∙◌, arith, rules, length, length-append, get_or, pos, to_z, to_z-of_z, w32, w64, SFits}
+use Rattle.std.proofs.lemmas.Iterator.Consumers.{YieldsList-turn, YieldsList-end}
+use Rattle.whole.specs.Inner.{column, length_column_cut, each_column_cut}
 use Rattle.whole.specs.Lists.{cut}
 use Rattle.whole.specs.Machine.{word, widened}
-use Rattle.scheme.specs.Loans.{UpTo}
-use Rattle.passes.proofs.Sums.{Summed, Turn, sum_start, sum_end, turn}
+use Rattle.passes.proofs.Rows.{road, road_long, Beside, beside}
+use Rattle.passes.proofs.Sums.{Turn, sum_start, sum_end, turn}
 use Rattle.passes.proofs.key.inner_column.Goals as goal
 
--- one product more
-step : (s table : List ℤ) (width j i at : ℕ) (sum : ℤ)
-    → (length table ≡ length s * width) × (j < width) × (sizes s ≤ 4096) × UpTo 549755813888 table
-    → (at ≡ i * width + j) × Summed s (column j (cut width (length s) table)) sum i → i < length s
-    → SFits w32 (get_or s i (pos 0)) → SFits w64 (get_or table at (pos 0))
-    → Turn s (column j (cut width (length s) table)) i sum (word w64 (word w32 (get_or s i (pos 0)))) (word w64 (get_or table at (pos 0)))
-step s table width j i at sum r f test p q =
-    turn f.1 (omega (arith, r.2)) (each_column_cut width (length s) j (omega arith) r.1 r.3)
-    test (rw length_column_cut test) (widened p)
-    (to_z-of_z q
-    ∙ ap (λ n. get_or table n (pos 0)) f.0
-    ∙ sym (get_or_column_cut width (length s) table i j test r.1))
+pub loop-x-init : goal.loop-x-init
+loop-x-init c = sum_start _ _
 
-pub loop-i-init : goal.loop-i-init
-loop-i-init c = (omega arith, sum_start _ _)
+pub bounds-row-j : goal.bounds-row-j
+bounds-row-j c =
+    let b : Beside c.args.s.now c.args.table.now c.args.width c.args.j (length c.loop-x.yielded) c.in-Some.x.now c.in-Some.row.now =
+    beside c.requires.0 c.requires.1
+    (YieldsList-turn (road {it = c.into_iter-x-iterator.result} (cc) (cc) (cc) (omega arith) c.requires.0) c.loop-x.yielded c.loop-x.x-iterator c.loop-x.yielded_by c.next.result c.next.new.self
+    (c.in-Some.x, c.in-Some.row) c.in-Some.is c.next.ensures.steps) in
+    omega (arith, b.long, c.requires.1)
+
+-- one product more
+step : (c : goal.After-sum-1)
+    → Turn c.args.s.now (column c.args.j (cut c.args.width (length c.args.s.now) c.args.table.now)) (length c.loop-x.yielded) (to_z w64 c.loop-x.sum-bits)
+    (word w64 c.from.result) (word w64 (get_or c.in-Some.row.now c.args.j (pos 0)))
+step c =
+    let b : Beside c.args.s.now c.args.table.now c.args.width c.args.j (length c.loop-x.yielded) c.in-Some.x.now c.in-Some.row.now =
+    beside c.requires.0 c.requires.1
+    (YieldsList-turn (road {it = c.into_iter-x-iterator.result} (cc) (cc) (cc) (omega arith) c.requires.0) c.loop-x.yielded c.loop-x.x-iterator c.loop-x.yielded_by c.next.result c.next.new.self
+    (c.in-Some.x, c.in-Some.row) c.in-Some.is c.next.ensures.steps) in
+    let p : SFits w32 c.in-Some.x.now = search rules in
+    let q : SFits w64 (get_or c.in-Some.row.now c.args.j (pos 0)) = search rules in
+    turn c.loop-x.invariant (omega (arith, c.requires.2)) (each_column_cut c.args.width (length c.args.s.now) c.args.j (omega (arith, c.requires.0)) c.requires.1 c.requires.3)
+    b.within (rw length_column_cut b.within) (ap (word w64) c.from.ensures ∙ widened p ∙ b.entry) (to_z-of_z q ∙ b.cell)
 
 pub overflow_mul-sum : goal.overflow_mul-sum
-overflow_mul-sum c = (step _ _ _ _ _ _ _ c.requires c.loop-i.invariant c.loop-i-test.true (search rules) (search rules)).product
+overflow_mul-sum c = (step c).product
 
 pub overflow_add-sum : goal.overflow_add-sum
-overflow_add-sum c = (step _ _ _ _ _ _ _ c.requires c.loop-i.invariant c.loop-i-test.true (search rules) (search rules)).total
+overflow_add-sum c = (step c).total
 
-pub loop-i-preserved : goal.loop-i-preserved
-loop-i-preserved c =
-    (omega arith, (step _ _ _ _ _ _ _ c.requires c.loop-i.invariant c.loop-i-test.true (search rules) (search rules)).next)
+pub loop-x-preserved : goal.loop-x-preserved
+loop-x-preserved c = rw length-append (step c).next
 
 pub returns : goal.returns
-returns c = sum_end c.loop-i.invariant.1 c.loop-i-test.false (rw length_column_cut c.loop-i-test.false)
+returns c =
+    let e = YieldsList-end (road {it = c.into_iter-x-iterator.result} (cc) (cc) (cc) (omega arith) c.requires.0) c.loop-x.yielded c.loop-x.x-iterator c.loop-x.yielded_by c.next.result c.next.new.self c.in-None.is c.next.ensures.steps in
+    let n : length c.loop-x.yielded ≡ length c.args.s.now = e.1 ∙ road_long c.args.s.now c.args.table.now c.args.width in
+    sum_end c.loop-x.invariant (omega arith) (rw length_column_cut (omega arith))

@@ -1,17 +1,14 @@
--- `key::sum_of_sizes`: one entry more is of size at most 2^31. Leans on what `size` ensures.
-use Rattle.std.proofs.Common.{◌≡◌, ◌≤◌, ap, ◌∙◌, add-one, arith, rules, get_or, pos, nat_abs, SFits, w32}
-use Rattle.std.specs.Int.Signed.{nat_abs-le}
-use Rattle.whole.specs.Inner.{sizes, sizes_suc}
-use Rattle.whole.specs.Machine.{widened}
+-- `key::sum_of_sizes`: `sizes` recurses as the library's `sum_by` does.
+use Rattle.std.proofs.Common.{◌∙◌, sym, refl, rules, nat_abs}
+use Rattle.std.proofs.lemmas.Iterator.{YieldsList-from_slice, YieldsList-from_map}
+use Rattle.std.proofs.lemmas.Iterator.Consumers.{YieldsList-at, sum_by_from_yields_List}
+use Rattle.std.proofs.lemmas.List.Recursion.{is_sum_by}
+use Rattle.whole.specs.Inner.{sizes}
 use Rattle.passes.proofs.key.sum_of_sizes.Goals as goal
 
-pub loop-i-init : goal.loop-i-init
+pub returns : goal.returns
 unfolding sizes
-loop-i-init c = omega arith
-
-pub loop-i-preserved : goal.loop-i-preserved
-loop-i-preserved c =
-    let fits : SFits w32 (get_or c.args.s.now c.loop-i.i (pos 0)) = search rules in
-    let size_is : c.size-sum.result ≡ nat_abs (get_or c.args.s.now c.loop-i.i (pos 0)) = c.size-sum.ensures ∙ ap nat_abs (widened fits) in
-    let size_low : nat_abs (get_or c.args.s.now c.loop-i.i (pos 0)) ≤ 2147483648 = nat_abs-le (get_or c.args.s.now c.loop-i.i (pos 0)) fits.sfits in
-    (omega arith, omega arith, rw add-one (omega (arith, sizes_suc c.args.s.now c.loop-i.i)))
+returns c =
+    sum_by_from_yields_List nat_abs c.args.s.now c.map.result _ c.sum.ensures.ran
+    (YieldsList-from_map _ nat_abs (YieldsList-at c.map.ensures.source (YieldsList-from_slice _ cc)) c.map.ensures.closure (λ x r q k. search rules))
+    ∙ sym (is_sum_by sizes nat_abs refl (λ _ _. refl) c.args.s.now)

@@ -6,4 +6,6 @@ use Rattle.scheme.specs.Loans.{square}
 use Rattle.passes.proofs.range.all_big_residues.Goals as goal
 
 pub returns : goal.returns
-returns c = c.all_below.ensures ∙ ap (λ (m : ℕ). every (is_residue m) c.args.xs.now) (sym (square c.requires).even)
+returns c =
+    c.all_below.ensures
+    ∙ ap (λ (m : ℕ). every (is_residue m) c.args.xs.now) (rw c.from-wide.ensures (sym (square c.requires).even))

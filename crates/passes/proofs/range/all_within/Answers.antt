@@ -1,16 +1,17 @@
--- `range::all_within`: one error more is counted where it is beyond the limit. Leans on what `size` ensures, and on `Beyond` for what one error adds.
-use Rattle.std.proofs.Common.{◌≡◌, ◌≤◌, ap, ◌∙◌, arith, rules, get_or, pos, nat_abs, to_z-of_z, SFits, w64}
-use Rattle.std.specs.Int.Signed.{nat_abs-le}
-use Rattle.whole.specs.Lists.{count_start, count_step}
-use Rattle.passes.proofs.Beyond.{bit_within}
+-- `range::all_within`: `every` recurses as the library's `list_all` does.
+use Rattle.std.proofs.Common.{◌≡◌, ◌∙◌, refl, rules, tests, nat_le, Bool, ℤ, List, ◌&&◌, unsigned_abs}
+use Rattle.std.specs.List.{list_all}
+use Rattle.std.proofs.lemmas.Iterator.{YieldsList-from_slice}
+use Rattle.std.proofs.lemmas.Iterator.Search.{all_from_yields_List}
+use Rattle.std.proofs.lemmas.List.Recursion.{same_from_clauses}
+use Rattle.whole.specs.Lists.{every}
 use Rattle.passes.proofs.range.all_within.Goals as goal
 
-pub loop-i-init : goal.loop-i-init
-loop-i-init c = count_start _ _
+every_all : (p : ℤ → Bool) (xs : List ℤ) → list_all p xs ≡ every p xs
+unfolding every
+every_all p xs = same_from_clauses (list_all p) (every p) (λ x b. p x && b) refl (λ _ _. refl) (λ _ _. refl) xs
 
-pub loop-i-preserved : goal.loop-i-preserved
-loop-i-preserved c =
-    let fits : SFits w64 (get_or c.args.errors.now c.loop-i.i (pos 0)) = search rules in
-    let size_is : c.size.result ≡ nat_abs (get_or c.args.errors.now c.loop-i.i (pos 0)) = c.size.ensures ∙ ap nat_abs (to_z-of_z fits) in
-    let size_low : nat_abs (get_or c.args.errors.now c.loop-i.i (pos 0)) ≤ 9223372036854775808 = nat_abs-le (get_or c.args.errors.now c.loop-i.i (pos 0)) fits.sfits in
-    count_step c.loop-i.invariant (pos 0) c.loop-i-test.true (rw size_is (bit_within _ (nat_abs (get_or c.args.errors.now c.loop-i.i (pos 0))) (omega arith) size_low))
+pub returns : goal.returns
+returns c =
+    all_from_yields_List (λ e. nat_le (unsigned_abs e) c.args.limit) _ _ _ c.all.ensures.ran (YieldsList-from_slice c.args.errors.now cc) (λ x b q k. search (rules, tests))
+    ∙ every_all _ c.args.errors.now
