@@ -17,10 +17,8 @@ fn fill_row(q: u32, x: i64, reciprocal: i64, d: &[i64], out: &mut [i64])
 {
     let slope = (x * reciprocal) >> 20;
     let base = 2199023255552 + (q as i64);
-    let mut v = 0;
-    while v < d.len() {
-        out[v] = Residue::up_to_half((slope * d[v] + base) >> 42, q).value();
-        v += 1;
+    for (v, y) in d.iter().enumerate() {
+        out[v] = Residue::up_to_half((slope * *y + base) >> 42, q).value();
     }
 }
 
@@ -31,12 +29,8 @@ pub fn fill_tensor(q: u32, c: &[i64], d: &[i64], out: &mut [i64])
 {
     let reciprocal = 4611686018427387904 / ((q / 2) as i64);
     let n = d.len();
-    let mut at = 0;
-    let mut u = 0;
-    while u < c.len() {
-        let end = at + n;
-        fill_row(q, c[u], reciprocal, d, &mut out[at..end]);
-        at = end;
-        u += 1;
+    for (u, x) in c.iter().enumerate() {
+        let at = u * n;
+        fill_row(q, *x, reciprocal, d, &mut out[at..at + n]);
     }
 }

@@ -1,6 +1,6 @@
 -- `fill_tensor` writes the tensor of c and d, row after row. A turn lends the part of one row to `fill_row`, which gives it back as row u. Assumes nothing.
-use Rattle.std.proofs.Common.{◌≡◌, map, ◌+◌, ◌*◌, ◌/◌, ◌≤◌, ◌<◌, ℕ, List, length, get_or, take, drop, sym, ap, ◌∙◌, arith, rules, w64, SFits, ℤ, pos, to_z, of_z, to_z-of_z}
-use Rattle.std.proofs.Math.Nat.{add-sub_cancel_left, div-le_self}
+use Rattle.std.proofs.Common.{◌≡◌, map, ◌+◌, ◌*◌, ◌/◌, ◌≤◌, ◌<◌, ℕ, List, length, get_or, take, drop, sym, ap, ◌∙◌, add-one, suc-mul, arith, rules, w64, SFits, ℤ, pos, to_z, of_z, to_z-of_z}
+use Rattle.std.proofs.Math.Nat.{add-sub_cancel_left, div-le_self, zero-mul}
 use Rattle.std.proofs.Math.Facts.{to_z_pos}
 use Rattle.std.specs.Int.Signed.{quot_z}
 use borrow.Rule.Slice.PartMut.{mid_len}
@@ -27,16 +27,12 @@ reciprocal_back q m =
     rw half (to_z-of_z (fits64 (pos (reciprocal_of q)) (omega (arith, div-le_self 4611686018427387904 (q / 2)))))
 
 pub loop-u-init : goal.loop-u-init
-loop-u-init c = record {
-  within = omega arith;
-  reached = omega arith;
-  filled = fill_start _ _ (rw (tensor_length, c.requires.3));
-}
+loop-u-init c = rw zero-mul (fill_start _ _ (rw (tensor_length, c.requires.3)))
 
 pub fill_row-requires : goal.fill_row-requires
 fill_row-requires c =
     let n : ℕ = length c.args.d.now in
-    let at : ℕ = c.loop-u.at in
+    let at : ℕ = c.loop-u.u * n in
     let x_fits : SFits w64 (get_or c.args.c.now c.loop-u.u (pos 0)) = search rules in
     let inside : at + n ≤ length c.loop-u.out = omega (arith, row_ends n (length c.args.c.now) c.loop-u.u c.loop-u-test.true) in (
       c.requires.0,
@@ -53,16 +49,11 @@ loop-u-preserved c =
     let e = c.args.c.now in
     let n : ℕ = length d in
     let u : ℕ = c.loop-u.u in
-    let at : ℕ = c.loop-u.at in
     let x_fits : SFits w64 (get_or e u (pos 0)) = search rules in
-    let inside : at + n ≤ length c.args.out.now = omega (arith, row_ends n (length e) u c.loop-u-test.true) in
-    record {
-      within = omega arith;
-      reached = omega arith;
-      filled =
-          rw (add-sub_cancel_left at n)
-          (fill_part n c.loop-u.invariant.filled inside
-          (c.fill_row.ensures
-          ∙ ap (λ (x : ℤ). map (tensor_entry q x) d) (to_z-of_z x_fits)
-          ∙ sym (ap (λ (k : ℕ). take n (drop k (tensor q e d))) c.loop-u.invariant.reached ∙ tensor_row q e d u c.loop-u-test.true)));
-    }
+    let inside : u * n + n ≤ length c.args.out.now = omega (arith, row_ends n (length e) u c.loop-u-test.true) in
+    let next : (u + 1) * n ≡ u * n + n = rw add-one (suc-mul u n) in
+    rw (add-sub_cancel_left (u * n) n, next)
+    (fill_part n c.loop-u.invariant inside
+    (c.fill_row.ensures
+    ∙ ap (λ (x : ℤ). map (tensor_entry q x) d) (to_z-of_z x_fits)
+    ∙ sym (tensor_row q e d u c.loop-u-test.true)))
