@@ -1,11 +1,12 @@
--- A sum that can pass a word, in two words: the invariant of a loop that adds 16 products after 16 (`Held`), and what one of its turns leaves to be shown
--- (`Chunk`). Leans on whole's bounds on the size of an inner product. Assumes nothing.
-use Rattle.std.proofs.Common.{◌≡◌, sym, ◌∙◌, List, [], ◌∷◌, ℕ, ◌+◌, ◌*◌, ◌-◌, ◌≤◌, ◌<◌, arith, length, take, drop, length-take, ℤ, pos, ◌+ℤ◌, ◌*ℤ◌, nat_abs, w64, SFits, to_z-of_z}
+-- A sum that can pass a word, in two words: the invariant of a loop that adds 16 products after 16 (`Held`), what one of its turns leaves to be shown
+-- (`Chunk`), and where the chunks lie. Leans on whole's bounds on the size of an inner product. Assumes nothing.
+use Rattle.std.proofs.Common.{◌≡◌, refl, sym, ap, ◌∙◌, List, [], ◌∷◌, ℕ, zero, suc, ◌+◌, ◌*◌, ◌-◌, ◌/◌, ◌≤◌, ◌<◌, arith, length, get_or, take, drop, length-take, length-drop, take_all, ℤ, pos, ◌+ℤ◌, ◌*ℤ◌, nat_abs, w64, SFits, to_z-of_z}
 use Rattle.std.specs.Int.Signed.{quot_z, rem_z}
 use Rattle.whole.specs.Size.{size_add}
 use Rattle.whole.specs.Ring.{by_ring, quote}
 use Rattle.whole.specs.Rem.{quot_rem, rem_size, quot_times_size}
-use Rattle.whole.specs.Lists.{each_part}
+use Rattle.std.specs.Simd.{first_chunks}
+use Rattle.whole.specs.Lists.{each_part, cut, get_or_cut}
 use Rattle.whole.specs.Machine.{word, fits64}
 use Rattle.whole.specs.Inner.{inner, inner_part, inner_most}
 use Rattle.scheme.specs.Loans.{UpTo}
@@ -56,3 +57,21 @@ chunk {t} {row} j e {hi} {lo} {x} small large same from short few held x-is =
             low = lo_size;
           });
     }
+
+-- ---- the chunks of 16 entries, as `as_chunks` gives them
+
+first_cut : (n k : ℕ) (xs : List ℤ) → first_chunks n k xs ≡ cut n k xs
+unfolding cut
+first_cut n zero xs = refl
+first_cut n (suc k) xs = ap (λ (r : List (List ℤ)). take n xs ∷ r) (first_cut n k (drop n xs))
+
+-- chunk k is what lies from 16·k up to 16 further on
+pub chunk_at : (xs : List ℤ) {chunks : List (List ℤ)} (k : ℕ) → chunks ≡ first_chunks 16 (length xs / 16) xs → k < length xs / 16
+    → get_or chunks k [] ≡ take (k * 16 + 16 - k * 16) (drop (k * 16) xs)
+chunk_at xs k e h =
+    let n : k * 16 + 16 - k * 16 ≡ 16 = omega arith in
+    rw (n, e, first_cut) (get_or_cut 16 (length xs / 16) xs k [] h)
+
+-- what is left is all after the last
+pub rest_at : (xs : List ℤ) {rest : List ℤ} (k : ℕ) → rest ≡ drop (length xs / 16 * 16) xs → k ≡ length xs / 16 → rest ≡ take (length xs - k * 16) (drop (k * 16) xs)
+rest_at xs k e f = e ∙ rw (← f) (sym (take_all (length xs - k * 16) (drop (k * 16) xs) (omega (arith, length-drop (k * 16) xs))))

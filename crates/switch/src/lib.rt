@@ -11,51 +11,34 @@ use modular::big_residue::BigResidue;
 use modular::residue::Residue;
 use modular::wide::Wide;
 
-// The exact sum of 16 products. The count is written out, so that the loop is unrolled whole.
-fn inner16(t: &[i64], row: &[i64]) -> i64
-    requires { (length t.now ≡ 16) × (length row.now ≡ 16) × UpTo 524288 t.now × UpTo 549755813888 row.now }
-    ensures { result ≡ inner t.now row.now }
-{
-    let mut sum: i64 = 0;
-    let mut j = 0;
-    while j < 16 {
-        sum += t[j] * row[j];
-        j += 1;
-    }
-    sum
-}
-
-// The exact sum of fewer than 16 products: what is left of a row after its chunks of 16.
-fn inner_rest(t: &[i64], row: &[i64]) -> i64
+// The exact sum of at most 16 products.
+fn inner(t: &[i64], row: &[i64]) -> i64
     requires { (length t.now ≤ 16) × (length row.now ≡ length t.now) × UpTo 524288 t.now × UpTo 549755813888 row.now }
     ensures { result ≡ inner t.now row.now }
 {
-    let mut sum: i64 = 0;
-    let mut j = 0;
-    while j < t.len() {
-        sum += t[j] * row[j];
-        j += 1;
+    let mut sum = 0;
+    for (x, y) in t.iter().zip(row) {
+        sum += *x * *y;
     }
     sum
 }
 
-// The exact sum S of a row, which reaches 2^78: each chunk of 16 products is folded into a high and a low part.
+// The exact sum S of a row, which reaches 2^78: each chunk of 16 products is folded into a high and a low part. That a chunk is an array says how many there are,
+// so that its sum is unrolled whole; and one count serves both rows, which spares the loop the test that a zip makes of the second.
 fn row_sum(t: &[i64], row: &[i64]) -> Wide
     requires { (length t.now ≤ 1048576) × (length row.now ≡ length t.now) × UpTo 524288 t.now × UpTo 549755813888 row.now }
     ensures { (result.hi *ℤ pos 1048576 +ℤ result.lo ≡ inner t.now row.now) × (nat_abs result.lo ≤ 137438953472) }
 {
-    let mut hi: i64 = 0;
-    let mut lo: i64 = 0;
-    let mut j = 0;
-    while 16 <= t.len() - j {
-        let end = j + 16;
-        let sum = inner16(&t[j..end], &row[j..end]);
+    let (chunks, rest) = t.as_chunks::<16>();
+    let (row_chunks, row_rest) = row.as_chunks::<16>();
+    let mut hi = 0;
+    let mut lo = 0;
+    for (k, chunk) in chunks.iter().enumerate() {
+        let sum = inner(chunk, &row_chunks[k]);
         hi += sum / 1048576;
         lo += sum % 1048576;
-        j = end;
     }
-    let all = t.len();
-    let sum = inner_rest(&t[j..all], &row[j..all]);
+    let sum = inner(rest, row_rest);
     Wide {
         hi: hi + sum / 1048576,
         lo: lo + sum % 1048576,
@@ -76,12 +59,8 @@ pub fn fill_switch(q: u32, t: &[i64], key: &[i64], out: &mut [i64])
     ensures { out.new ≡ switch (length out.old) q key.now t.now }
 {
     let width = t.len();
-    let mut at = 0;
-    let mut i = 0;
-    while i < out.len() {
-        let end = at + width;
-        out[i] = switch_entry(q, t, &key[at..end]).value();
-        at = end;
-        i += 1;
+    for (i, x) in out.iter_mut().enumerate() {
+        let at = i * width;
+        *x = switch_entry(q, t, &key[at..at + width]).value();
     }
 }

@@ -9,13 +9,13 @@ use Rattle.switch.proofs.Switching.{length_switch, get_or_switch}
 use Rattle.switch.proofs.fill_switch.Goals as goal
 
 pub loop-i-init : goal.loop-i-init
-loop-i-init c = record { reached = omega arith; filled = fill_start _ _ (rw length_switch) }
+loop-i-init c = fill_start _ _ (rw length_switch)
 
 pub switch_entry-requires : goal.switch_entry-requires
 switch_entry-requires c =
     let q : ℕ = c.args.q in
-    let at : ℕ = c.loop-i.at in
     let width : ℕ = length c.args.t.now in
+    let at : ℕ = c.loop-i.i * width in
     let key = c.args.key.now in
     let inside : at + width ≤ length key = omega (arith, row_ends width (length c.args.out.now) c.loop-i.i (omega arith)) in (
       c.requires.0,
@@ -30,19 +30,15 @@ loop-i-preserved c =
     let q : ℕ = c.args.q in
     let t = c.args.t.now in
     let key = c.args.key.now in
-    let at : ℕ = c.loop-i.at in
     let i : ℕ = c.loop-i.i in
+    let at : ℕ = i * length t in
     let n : ℕ = length c.args.out.now in
     let h : i < n = omega arith in
-    let row : take (at + length t - at) (drop at key) ≡ take (length t) (drop (i * length t) key) = rw (add-sub_cancel_left at (length t), c.loop-i.invariant.reached) in
+    let row : take (at + length t - at) (drop at key) ≡ take (length t) (drop at key) = rw (add-sub_cancel_left at (length t)) in
     let read : SFits w64 c.value.result = search rules in
-    record {
-      reached = omega arith;
-      filled =
-          fill_step c.loop-i.invariant.filled _ (pos 0) h
-          (to_z-of_z read
-          ∙ c.value.ensures
-          ∙ c.switch_entry.ensures
-          ∙ ap (switch_entry q t) row
-          ∙ sym (get_or_switch n q (length t) key t i c.requires.2 h));
-    }
+    fill_step c.loop-i.invariant _ (pos 0) h
+    (to_z-of_z read
+    ∙ c.value.ensures
+    ∙ c.switch_entry.ensures
+    ∙ ap (switch_entry q t) row
+    ∙ sym (get_or_switch n q (length t) key t i c.requires.2 h))
