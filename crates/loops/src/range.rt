@@ -13,10 +13,8 @@ pub extern "C" fn bench_range(q: u32, key: &[i64], times: u32) -> u32
         return 0;
     }
     let mut found: u32 = 0;
-    let mut k: u32 = 0;
-    while k < times {
-        found += all_big_residues(key, q) as u32;
-        k += 1;
+    for _ in 0..times {
+        found += u32::from(all_big_residues(key, q));
     }
     found
 }

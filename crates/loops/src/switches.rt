@@ -35,10 +35,8 @@ pub extern "C" fn bench_switch(q: u32, t: &[i64], key: &[i64], out: &mut [i64], 
     if !switch_lent(q, t, key, out.len()) {
         return 0;
     }
-    let mut k: u32 = 0;
-    while k < times {
+    for _ in 0..times {
         fill_switch(q, t, key, out);
-        k += 1;
     }
     1
 }

@@ -35,10 +35,8 @@ pub extern "C" fn bench_tensor(q: u32, c: &[i64], d: &[i64], out: &mut [i64], ti
     if !tensor_lent(q, c, d, out.len()) {
         return 0;
     }
-    let mut k: u32 = 0;
-    while k < times {
+    for _ in 0..times {
         fill_tensor(q, c, d, out);
-        k += 1;
     }
     1
 }

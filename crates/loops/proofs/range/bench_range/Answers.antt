@@ -14,5 +14,5 @@ pub returns : goal.returns
 unfolding big_residues
 returns c =
     let yes : is_modulus c.args.q ≡ true = sym c.is_modulus.ensures ∙ c.if-not-is_modulus.false in
-    let k : c.loop-k.k ≡ c.args.times = omega arith in
-    rw (yes, ← k) c.loop-k.invariant.counted
+    let all : c.loop.counter ≡ c.args.times = omega arith in
+    rw (yes, ← all) c.loop.invariant

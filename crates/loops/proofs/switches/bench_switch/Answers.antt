@@ -5,4 +5,4 @@ use Rattle.loops.proofs.switches.bench_switch.Goals as goal
 
 -- past the test the loans are right
 pub fill_switch-requires : goal.fill_switch-requires
-fill_switch-requires c = rw c.loop-k.invariant.run.kept (switch_loans _ _ _ _ (sym c.switch_lent.ensures ∙ c.if-not-switch_lent.false))
+fill_switch-requires c = rw c.loop.invariant.kept (switch_loans _ _ _ _ (sym c.switch_lent.ensures ∙ c.if-not-switch_lent.false))

@@ -5,4 +5,4 @@ use Rattle.loops.proofs.tensors.bench_tensor.Goals as goal
 
 -- past the test the loans are right
 pub fill_tensor-requires : goal.fill_tensor-requires
-fill_tensor-requires c = rw c.loop-k.invariant.run.kept (tensor_loans _ _ _ _ (sym c.tensor_lent.ensures ∙ c.if-not-tensor_lent.false))
+fill_tensor-requires c = rw c.loop.invariant.kept (tensor_loans _ _ _ _ (sym c.tensor_lent.ensures ∙ c.if-not-tensor_lent.false))
