@@ -22,10 +22,8 @@ pub fn xor_into(q: u32, c: &[i64], d: &[i64], out: &mut [i64])
     requires { XorIntoReady q c.now d.now out.old }
     ensures { out.new ≡ XOR q c.now d.now }
 {
-    let mut i = 0;
-    while i < out.len() {
-        out[i] = Residue::near(c[i] + d[i], q).value();
-        i += 1;
+    for (i, x) in out.iter_mut().enumerate() {
+        *x = Residue::near(c[i] + d[i], q).value();
     }
 }
 

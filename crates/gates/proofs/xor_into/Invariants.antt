@@ -1,11 +1,7 @@
 -- The first i entries of out are the XOR's, the others as found.
-use Rattle.std.proofs.Common.{length, ◌-◌}
 use Rattle.whole.specs.Lists.{Filled}
 use Rattle.scheme.specs.Arithmetic.{XOR}
 use Rattle.gates.proofs.xor_into.Given as goal
 
 abbrev pub invariant-loop-i : goal.invariant-loop-i
 invariant-loop-i l = Filled (XOR l.q l.c l.d) l.initial.out l.out l.i
-
-abbrev pub decreases-loop-i : goal.decreases-loop-i
-decreases-loop-i l = length l.initial.out - l.i
