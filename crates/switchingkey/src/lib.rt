@@ -32,10 +32,8 @@ fn fill_row_zero(q: u32, s: &[i32], masks: &[i64], errors: &[i64], out: &mut [i6
     requires { FillRowZeroReady q s.now masks.now errors.now out.old }
     ensures { out.new ≡ tabulate (length s.now * length s.now) (row_zero_entry (length s.now) q s.now masks.now errors.now) }
 {
-    let mut j = 0;
-    while j < out.len() {
-        out[j] = row_zero_entry(q, s, masks, errors[j], j).big_value();
-        j += 1;
+    for (j, x) in out.iter_mut().enumerate() {
+        *x = row_zero_entry(q, s, masks, errors[j], j).big_value();
     }
 }
 
