@@ -2,11 +2,10 @@
 // zeros, so that they refuse what it refuses, and a refusal leaves the zeros.
 #![tactic(auto)]
 
-ghost use Rattle.std.specs.Prelude.{◌≡◌, ◌+◌, ◌≤◌, length, take, drop};
+ghost use Rattle.std.specs.Prelude.{◌≡◌};
 ghost use Rattle.refusal.specs.Parameters.{sheet};
 ghost use Rattle.scheme.specs.Calls.{BenchCheckPromise, BenchKeyPromise};
 
-use passes::buffer::copy;
 use refusal::{Params, Refusal};
 use switchingkey::make_switching_key;
 
@@ -32,27 +31,12 @@ pub fn check_bench_key(s: &[i32], masks: &[i64], errors: &[i64]) -> Refusal
     make_switching_key(bench_sheet(), s, masks, errors, &mut room)
 }
 
-// The sixteen entries from `from` on: a row.
-fn bench_row(key: &[i64], from: usize) -> [i64; 16]
-    requires { from + 16 ≤ length key.now }
-    ensures { result ≡ take 16 (drop from key.now) }
-{
-    let mut row = [0i64; 16];
-    let end = from + 16;
-    copy(&key[from..end], &mut row);
-    row
-}
-
 // The bench key: the switching key of sheet 1 as four rows of sixteen, by value; all zeros on a refusal.
 pub fn make_bench_key(s: &[i32], masks: &[i64], errors: &[i64]) -> [[i64; 16]; 4]
     ensures { BenchKeyPromise s.now masks.now errors.now result }
 {
     let mut key = [0i64; 64];
     make_switching_key(bench_sheet(), s, masks, errors, &mut key);
-    [
-        bench_row(&key, 0),
-        bench_row(&key, 16),
-        bench_row(&key, 32),
-        bench_row(&key, 48),
-    ]
+    let (rows, _) = key.as_chunks::<16>();
+    [rows[0], rows[1], rows[2], rows[3]]
 }

@@ -1,5 +1,5 @@
 -- `benchkey::make_bench_key` returns the rows of what the switching key maker left in a buffer of zeros. Assumes nothing.
-use Rattle.std.proofs.Common.{ap, ◌∙◌}
+use Rattle.std.proofs.Common.{ap, ◌∙◌, rules}
 use Rattle.whole.specs.Lists.{cut}
 use Rattle.scheme.specs.Calls.{bench_key}
 use Rattle.benchkey.proofs.Made.{bench_made, four_rows}
@@ -9,6 +9,6 @@ pub returns : goal.returns
 unfolding bench_key
 returns c =
     record {
-      answer = rw (c.bench_row-4.ensures, c.bench_row-3.ensures, c.bench_row-2.ensures, c.bench_row.ensures)
-          (four_rows _ ∙ ap (cut 16 4) (bench_made c.bench_sheet.ensures c.make_switching_key.ensures).result_left);
+      answer = four_rows c.make_switching_key.new.out c.as_chunks.ensures.front (search rules)
+          ∙ ap (cut 16 4) (bench_made c.bench_sheet.ensures c.make_switching_key.ensures).result_left;
     }
