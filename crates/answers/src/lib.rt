@@ -1,5 +1,5 @@
-// Calls on parameter sets, keys, ciphertexts and circuit files as text: does a call that was read, and puts what it answered and left into the text. For the program
-// that compares.
+// Calls on parameter sets, keys, ciphertexts and circuit files as text: does a call that was read, and puts what it answered and left. For
+// the program that compares.
 #![tactic(auto)]
 
 pub mod ciphers;

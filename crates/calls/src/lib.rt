@@ -2,7 +2,8 @@
 // program that compares.
 #![tactic(auto)]
 
+pub mod entry;
+pub mod kind;
 pub mod lent;
 pub mod print;
 pub mod read;
-pub mod width;

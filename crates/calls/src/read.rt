@@ -1,38 +1,12 @@
-// Reading a call: its numbers, with the count of each list before its entries, are put one after
-// the other into a store that the caller lends. A call that is not whole, a number outside its
-// width, a list that is too long and a call that the store cannot hold are not read.
-ghost use Rattle.std.specs.Prelude.{◌≡◌, length};
+// Reading a call: its numbers, with the count of each list before its entries, are put one after the other into a store that the caller
+// lends. A call that is not whole, a number outside its width, a list that is too long and a call that the store cannot hold are not
+// read.
+ghost use Rattle.std.specs.Prelude.{◌≡◌, ◌≤◌, length, IfSome};
 ghost use Rattle.stream.specs.Bounds.{CountIn};
 
-use crate::width::count;
+use crate::kind::Kind;
 use std::io::Read;
-use stream::Cursor;
-
-// What a call has at a place: nothing (O), a number of 32 bits from 0 up (W), a number of 64 bits
-// (X), a key (K), a list of n, n² or n³ numbers of 64 bits (N1, N2, N3), a list with a number of 32 bits
-// from 0 up for each gate or wire (U), one with three for each gate (G), or a list of bytes: a file's or
-// its bounds' (B), or a text's (T).
-const O: u8 = 0;
-
-const W: u8 = 1;
-
-const X: u8 = 2;
-
-const K: u8 = 3;
-
-const N1: u8 = 4;
-
-const N2: u8 = 5;
-
-const N3: u8 = 6;
-
-const U: u8 = 7;
-
-const G: u8 = 8;
-
-const B: u8 = 9;
-
-const T: u8 = 10;
+use stream::Input;
 
 // The most entries of a key and of a list of n, n² and n³ entries. They serve up to n = 64, and a
 // little more, so that a wrong length can be tried.
@@ -57,230 +31,153 @@ pub const TEXT: usize = 81000;
 // The most numbers of a call: call 13 has the most, two lists of LONG among them.
 pub const STORE: usize = 550000;
 
-// What each call has after its number; there is no call 0. Five W are a parameter set.
-const SHAPES: [[u8; 13]; 19] = [
-    [O, O, O, O, O, O, O, O, O, O, O, O, O],
-    [W, W, W, W, W, O, O, O, O, O, O, O, O],
-    [W, O, O, O, O, O, O, O, O, O, O, O, O],
-    [W, W, W, W, W, K, O, O, O, O, O, O, O],
-    [W, W, W, W, W, K, N3, N2, N3, O, O, O, O],
-    [K, N1, N1, O, O, O, O, O, O, O, O, O, O],
-    [K, N1, N1, O, O, O, O, O, O, O, O, O, O],
-    [W, W, W, W, W, K, W, N1, X, N1, O, O, O],
-    [W, W, W, W, W, K, N1, O, O, O, O, O, O],
-    [W, W, W, W, W, N1, W, N1, W, N1, O, O, O],
-    [W, W, W, W, W, N1, W, N1, O, O, O, O, O],
-    [W, W, W, W, W, N1, W, N1, W, N3, N2, N1, O],
-    [W, W, W, W, W, W, U, U, U, U, O, O, O],
-    [W, W, W, W, W, W, U, U, U, N3, U, N3, N2],
-    [B, O, O, O, O, O, O, O, O, O, O, O, O],
-    [B, B, O, O, O, O, O, O, O, O, O, O, O],
-    [B, T, O, O, O, O, O, O, O, O, O, O, O],
-    [W, W, W, W, W, W, G, U, O, O, O, O, O],
-    [W, W, W, W, W, W, G, N3, U, N3, N2, O, O],
-];
-
-// Where reading stands: what is left of the block that was read last, how many numbers the store
-// has, the number that was read last, and whether everything so far could be read.
+// The widths of numbers: bytes, 32 bits from 0 up, 32 bits signed, and all that a number of a call can have.
 #[derive(Clone, Copy)]
-pub struct Reader {
-    pub cursor: Cursor,
-    pub at: usize,
-    pub value: i64,
-    pub good: bool,
+enum Width {
+    Byte,
+    Word,
+    Narrow,
+    Whole,
 }
 
-// One number, which must lie within low and high.
-fn take<R: Read>(
-    input: &mut R,
-    block: &mut [u8],
-    r: Reader,
-    store: &mut [i64],
-    low: i64,
-    high: i64,
-) -> Reader {
-    let from = r.cursor;
-    let at = r.at;
-    let t = stream::number(input, block, from);
-    let cursor = t.cursor;
-    let value = t.value;
-    if t.found {
-        if at < store.len() {
-            if low <= value {
-                if value <= high {
-                    store[at] = value;
-                    return Reader {
-                        cursor,
-                        at: at + 1,
-                        value,
-                        good: true,
-                    };
+// What a call has at a place: n, q, L, E and F, a number, or the count of a list and then its entries, at most so many.
+#[derive(Clone, Copy)]
+enum Part {
+    Params,
+    Number(Width),
+    List(Width, usize),
+}
+
+const WORD: Part = Part::Number(Width::Word);
+
+const NUMBER: Part = Part::Number(Width::Whole);
+
+const KEY: Part = Part::List(Width::Narrow, SHORT);
+
+// A list of n, n² or n³ numbers.
+const N1: Part = Part::List(Width::Whole, SHORT);
+
+const N2: Part = Part::List(Width::Whole, MIDDLE);
+
+const N3: Part = Part::List(Width::Whole, LONG);
+
+// A list with a number for each gate or wire, and one with three for each gate.
+const WORDS: Part = Part::List(Width::Word, WIRES);
+
+const RECORDS: Part = Part::List(Width::Word, GATES);
+
+// The bytes of a file or of its bounds, and of a text.
+const BYTES: Part = Part::List(Width::Byte, FILE);
+
+const LETTERS: Part = Part::List(Width::Byte, TEXT);
+
+// What a call has after its number.
+fn parts(kind: Kind) -> &'static [Part] {
+    match kind {
+        Kind::Make => &[Part::Params],
+        Kind::Sheet => &[WORD],
+        Kind::CheckKey => &[Part::Params, KEY],
+        Kind::MakeSwitchingKey => &[Part::Params, KEY, N3, N2, N3],
+        Kind::CheckBenchKey | Kind::MakeBenchKey => &[KEY, N1, N1],
+        Kind::Encrypt => &[Part::Params, KEY, WORD, N1, NUMBER, N1],
+        Kind::Decrypt => &[Part::Params, KEY, N1],
+        Kind::Xor => &[Part::Params, N1, WORD, N1, WORD, N1],
+        Kind::Not => &[Part::Params, N1, WORD, N1],
+        Kind::And => &[Part::Params, N1, WORD, N1, WORD, N3, N2, N1],
+        Kind::Plan => &[Part::Params, WORD, WORDS, WORDS, WORDS, WORDS],
+        Kind::Evaluate => &[Part::Params, WORD, WORDS, WORDS, WORDS, N3, WORDS, N3, N2],
+        Kind::CheckFile => &[BYTES],
+        Kind::PlanFile => &[BYTES, BYTES],
+        Kind::PrintFile => &[BYTES, LETTERS],
+        Kind::PlanGates => &[Part::Params, WORD, RECORDS, WORDS],
+        Kind::EvaluateGates => &[Part::Params, WORD, RECORDS, N3, WORDS, N3, N2],
+    }
+}
+
+impl Width {
+    // Whether a number has this width.
+    fn holds(self, x: i64) -> bool {
+        match self {
+            Width::Byte => u8::try_from(x).is_ok(),
+            Width::Word => u32::try_from(x).is_ok(),
+            Width::Narrow => i32::try_from(x).is_ok(),
+            Width::Whole => true,
+        }
+    }
+}
+
+// Where a call is read from, and the store that it is put into, which has so many numbers of it.
+#[derive(Drop)]
+struct Reader<'a, R> {
+    input: &'a mut Input<R>,
+    store: &'a mut [i64],
+    len: usize,
+    ghost within: { len ≤ length store.now },
+}
+
+impl<R: Read> Reader<'_, R> {
+    // The next number, which must have this width.
+    fn number(&mut self, width: Width) -> Option<i64>
+        ensures { self.new.store.ghost_name ≡ self.old.store.ghost_name }
+    {
+        let x = self.input.number()?;
+        if self.len == self.store.len() || !width.holds(x) {
+            return None;
+        }
+        self.store[self.len] = x;
+        self.len += 1;
+        Some(x)
+    }
+
+    // So many numbers of a width.
+    fn numbers(&mut self, count: usize, width: Width) -> Option<()>
+        ensures { self.new.store.ghost_name ≡ self.old.store.ghost_name }
+    {
+        for _ in 0..count {
+            self.number(width)?;
+        }
+        Some(())
+    }
+
+    // What a call has at a place.
+    fn part(&mut self, part: Part) -> Option<()>
+        ensures { self.new.store.ghost_name ≡ self.old.store.ghost_name }
+    {
+        match part {
+            Part::Params => self.numbers(5, Width::Word),
+            Part::Number(width) => self.numbers(1, width),
+            Part::List(width, most) => {
+                let count = usize::try_from(self.number(Width::Word)?).ok()?;
+                if count > most {
+                    return None;
                 }
+                self.numbers(count, width)
             }
         }
     }
-    Reader {
-        cursor,
-        at,
-        value: 0,
-        good: false,
-    }
-}
 
-// n numbers that lie within low and high.
-fn run<R: Read>(
-    input: &mut R,
-    block: &mut [u8],
-    r: Reader,
-    store: &mut [i64],
-    n: usize,
-    low: i64,
-    high: i64,
-) -> Reader {
-    let mut now = r;
-    for _ in 0..n {
-        now = take(input, block, now, store, low, high);
-        if !now.good {
-            return now;
+    // A call: which one it is. Its number is not put into the store.
+    fn call(&mut self) -> Option<Kind>
+        ensures { self.new.store.ghost_name ≡ self.old.store.ghost_name }
+    {
+        let kind = Kind::try_from(self.input.number()?).ok()?;
+        for part in parts(kind) {
+            self.part(*part)?;
         }
+        Some(kind)
     }
-    now
 }
 
-// The most entries of a list of a kind.
-fn most(kind: u8) -> i64 {
-    if kind == T {
-        return TEXT as i64;
-    }
-    if kind == B {
-        return FILE as i64;
-    }
-    if kind == G {
-        return GATES as i64;
-    }
-    if kind == U {
-        return WIRES as i64;
-    }
-    if kind == N3 {
-        return LONG as i64;
-    }
-    if kind == N2 {
-        return MIDDLE as i64;
-    }
-    SHORT as i64
-}
-
-// A list: its count and its entries.
-fn list<R: Read>(
-    input: &mut R,
-    block: &mut [u8],
-    r: Reader,
-    store: &mut [i64],
-    kind: u8,
-) -> Reader {
-    let counted = take(input, block, r, store, 0, most(kind));
-    if !counted.good {
-        return counted;
-    }
-    let n = count(counted.value);
-    if kind == K {
-        return run(input, block, counted, store, n, -2147483648, 2147483647);
-    }
-    // B and T are bytes, U and G numbers of 32 bits from 0 up.
-    if kind >= B {
-        return run(input, block, counted, store, n, 0, 255);
-    }
-    if kind >= U {
-        return run(input, block, counted, store, n, 0, 4294967295);
-    }
-    run(
-        input,
-        block,
-        counted,
-        store,
-        n,
-        -9223372036854775808,
-        9223372036854775807,
-    )
-}
-
-// What a call has at a place. Nothing more is read after what could not be read.
-fn part<R: Read>(
-    input: &mut R,
-    block: &mut [u8],
-    r: Reader,
-    store: &mut [i64],
-    kind: u8,
-) -> Reader {
-    if !r.good {
-        return r;
-    }
-    if kind == O {
-        return r;
-    }
-    if kind == W {
-        return take(input, block, r, store, 0, 4294967295);
-    }
-    if kind == X {
-        return take(
-            input,
-            block,
-            r,
-            store,
-            -9223372036854775808,
-            9223372036854775807,
-        );
-    }
-    list(input, block, r, store, kind)
-}
-
-// Everything that a call has after its number.
-fn parts<R: Read>(
-    input: &mut R,
-    block: &mut [u8],
-    r: Reader,
-    store: &mut [i64],
-    shape: [u8; 13],
-) -> Reader {
-    let mut now = r;
-    for i in 0..13 {
-        let kind = shape[i];
-        now = part(input, block, now, store, kind);
-    }
-    now
-}
-
-// What the call of a number has.
-fn shape(number: i64) -> [u8; 13] {
-    let k = count(number);
-    if k < 19 {
-        return SHAPES[k];
-    }
-    SHAPES[0]
-}
-
-// The next call, at the front of the store: its numbers are those before `at`. The last test never
-// fails, since a number is put only where the store has room; by it the count is known to be one.
-pub fn call<R: Read>(input: &mut R, block: &mut [u8], from: Cursor, store: &mut [i64]) -> Reader
-    ensures count_in { CountIn result.at store.new }
+// The next call, with what it lends at the front of the store: how many numbers that is.
+pub fn call<R: Read>(input: &mut Input<R>, store: &mut [i64]) -> Option<(Kind, usize)>
+    ensures count_in { IfSome result (λ c. CountIn c.1 store.new) }
     ensures store_len_unchanged { length store.new ≡ length store.old }
 {
-    let start = Reader {
-        cursor: from,
-        at: 0,
-        value: 0,
-        good: true,
+    let mut reader = Reader {
+        input,
+        store,
+        len: 0,
     };
-    let number = take(input, block, start, store, 1, 18);
-    let last = parts(input, block, number, store, shape(number.value));
-    let cursor = last.cursor;
-    if last.at <= store.len() {
-        return last;
-    }
-    Reader {
-        cursor,
-        at: 0,
-        value: 0,
-        good: false,
-    }
+    let kind = reader.call()?;
+    Some((kind, reader.len))
 }

@@ -1,203 +1,147 @@
-// The calls on circuits, whose gates are lent in three lists or as records. Each takes the call's numbers, and puts its answer into the
-// text.
+// The calls on circuits. Each takes what the call lends, does it and puts its answer, and what it left in its buffers.
 ghost use Rattle.std.specs.Prelude.{◌≡◌, length};
-ghost use Rattle.stream.specs.Bounds.{Placed};
+ghost use Rattle.circuit.specs.Plan.{plan_loans, PlanPromise};
+ghost use Rattle.circuit.specs.Evaluate.{evaluate_loans, EvaluatePromise};
+ghost use Rattle.replay.specs.Lent.{circuit_of};
 
-use crate::lending;
+use calls::lent::Lent;
+use calls::print;
 use calls::read::{MIDDLE, WIRES};
-use calls::{lent, print};
 use checks::lent::Lists;
-use refusal::Refusal;
+use circuit::Gate;
+use refusal::{Params, Refusal};
 use std::io::Write;
+use stream::Output;
 
-// Calls 17 and 18 have their gates in one list, as records, calls 12 and 13 in three.
-fn is_recorded(call: &[i64]) -> bool {
-    lent::word(call, 0) >= 17
+// How a call lends the gates of its circuit: calls 12 and 13 in three lists, calls 17 and 18 as records.
+#[derive(Clone, Copy)]
+pub enum Form {
+    Lists,
+    Records,
 }
 
-// The place after the gates.
-fn past_gates(call: &[i64]) -> usize {
-    let first = lent::past(call, 7);
-    if is_recorded(call) {
-        return first;
+// A circuit as it is lent.
+#[derive(Clone, Copy)]
+enum Circuit<'a> {
+    Lists(Lists<'a>),
+    Records(&'a [Gate]),
+}
+
+impl Circuit<'_> {
+    // Plans.
+    fn plan(self, p: Params, inputs: u32, bounds: &mut [u32]) -> Refusal
+        ensures { PlanPromise (plan_loans p inputs (circuit_of self.entry) bounds.old) result bounds.new }
+    {
+        match self {
+            Circuit::Lists(lists) => planning::plan(p, inputs, &lists, bounds),
+            Circuit::Records(gates) => records::plan::plan_gates(p, inputs, gates, bounds),
+        }
     }
-    lent::past(call, lent::past(call, first))
-}
 
-// Plans, with the gates in three lists.
-fn plan_listed(call: &[i64], bounds: &mut [u32]) -> Refusal {
-    let mut kinds = [0u32; WIRES];
-    let mut lefts = [0u32; WIRES];
-    let mut rights = [0u32; WIRES];
-    let at_lefts = lent::past(call, 7);
-    let k = lent::words(call, 7, &mut kinds);
-    let l = lent::words(call, at_lefts, &mut lefts);
-    let r = lent::words(call, lent::past(call, at_lefts), &mut rights);
-    let listed = Lists {
-        kinds: &kinds[0..k],
-        lefts: &lefts[0..l],
-        rights: &rights[0..r],
-    };
-    planning::plan(lent::params(call), lent::word(call, 6), &listed, bounds)
-}
-
-// Plans, with the gates as records.
-fn plan_recorded(call: &[i64], bounds: &mut [u32]) -> Refusal {
-    lending::plan(
-        lent::params(call),
-        lent::word(call, 6),
-        lent::gates(call, 7),
-        lent::gate_count(call, 7),
-        bounds,
-    )
-}
-
-// Plans.
-fn planned(call: &[i64], bounds: &mut [u32]) -> Refusal {
-    if is_recorded(call) {
-        return plan_recorded(call, bounds);
+    // Evaluates.
+    fn evaluate(
+        self,
+        p: Params,
+        inputs: u32,
+        wires: &mut [i64],
+        bounds: &mut [u32],
+        key: &[i64],
+        scratch: &mut [i64],
+    ) -> Refusal
+        ensures { EvaluatePromise (evaluate_loans (plan_loans p inputs (circuit_of self.entry) bounds.old) wires.old key.now scratch.old) result wires.new bounds.new scratch.new }
+    {
+        match self {
+            Circuit::Lists(lists) => {
+                evaluation::evaluate(p, inputs, &lists, wires, bounds, key, scratch)
+            }
+            Circuit::Records(gates) => {
+                records::evaluate::evaluate_gates(p, inputs, gates, wires, bounds, key, scratch)
+            }
+        }
     }
-    plan_listed(call, bounds)
 }
 
-// Plans in `bounds`; puts the answer and `bounds`.
-fn put_planned<W: Write>(
-    output: &mut W,
-    call: &[i64],
-    text: &mut [u8],
-    at: usize,
-    bounds: &mut [u32],
-) -> usize
-    ensures { Placed result text.old text.new }
-{
-    let answer = planned(call, bounds);
-    let to = print::refusal(output, text, at, answer);
-    print::words(output, text, to, bounds)
+// Room for the gates of a circuit in either form.
+#[derive(Drop)]
+struct Room {
+    kinds: [u32; WIRES],
+    lefts: [u32; WIRES],
+    rights: [u32; WIRES],
+    records: [Gate; WIRES],
+}
+
+impl Room {
+    // No gates yet.
+    fn new() -> Room {
+        Room {
+            kinds: [0; WIRES],
+            lefts: [0; WIRES],
+            rights: [0; WIRES],
+            records: [Gate {
+                kind: 0,
+                left: 0,
+                right: 0,
+            }; WIRES],
+        }
+    }
+
+    // Takes the gates of a call.
+    fn circuit(&mut self, form: Form, call: &mut Lent<'_>) -> Circuit<'_> {
+        match form {
+            Form::Lists => {
+                let k = call.fill(&mut self.kinds);
+                let l = call.fill(&mut self.lefts);
+                let r = call.fill(&mut self.rights);
+                Circuit::Lists(Lists {
+                    kinds: &self.kinds[..k],
+                    lefts: &self.lefts[..l],
+                    rights: &self.rights[..r],
+                })
+            }
+            Form::Records => {
+                let n = call.gates(&mut self.records);
+                Circuit::Records(&self.records[..n])
+            }
+        }
+    }
 }
 
 // Calls 12 and 17: a parameter set, the number of inputs, the gates, and the bounds as found.
-pub fn plan<W: Write>(output: &mut W, call: &[i64], text: &mut [u8], at: usize) -> usize
-    ensures { Placed result text.old text.new }
-{
+pub fn plan<W: Write>(form: Form, mut call: Lent<'_>, output: &mut Output<W>) {
+    let mut room = Room::new();
     let mut bounds = [0u32; WIRES];
-    let b = lent::words(call, past_gates(call), &mut bounds);
-    put_planned(output, call, text, at, &mut bounds[0..b])
-}
-
-// Evaluates, with the gates in three lists.
-fn evaluate_listed(
-    call: &[i64],
-    wires: &mut [i64],
-    bounds: &mut [u32],
-    key: &[i64],
-    scratch: &mut [i64],
-) -> Refusal {
-    let mut kinds = [0u32; WIRES];
-    let mut lefts = [0u32; WIRES];
-    let mut rights = [0u32; WIRES];
-    let at_lefts = lent::past(call, 7);
-    let k = lent::words(call, 7, &mut kinds);
-    let l = lent::words(call, at_lefts, &mut lefts);
-    let r = lent::words(call, lent::past(call, at_lefts), &mut rights);
-    let listed = Lists {
-        kinds: &kinds[0..k],
-        lefts: &lefts[0..l],
-        rights: &rights[0..r],
-    };
-    evaluation::evaluate(
-        lent::params(call),
-        lent::word(call, 6),
-        &listed,
-        wires,
-        bounds,
-        key,
-        scratch,
-    )
-}
-
-// Evaluates, with the gates as records.
-fn evaluate_recorded(
-    call: &[i64],
-    wires: &mut [i64],
-    bounds: &mut [u32],
-    key: &[i64],
-    scratch: &mut [i64],
-) -> Refusal {
-    lending::evaluate(
-        lent::params(call),
-        lent::word(call, 6),
-        lent::gates(call, 7),
-        lent::gate_count(call, 7),
-        wires,
-        bounds,
-        key,
-        scratch,
-    )
-}
-
-// Evaluates.
-fn evaluated(
-    call: &[i64],
-    wires: &mut [i64],
-    bounds: &mut [u32],
-    key: &[i64],
-    scratch: &mut [i64],
-) -> Refusal {
-    if is_recorded(call) {
-        return evaluate_recorded(call, wires, bounds, key, scratch);
-    }
-    evaluate_listed(call, wires, bounds, key, scratch)
-}
-
-// Evaluates in `wires`, `bounds` and `scratch`; puts the answer and the three of them.
-fn put_evaluated<W: Write>(
-    output: &mut W,
-    call: &[i64],
-    text: &mut [u8],
-    at: usize,
-    wires: &mut [i64],
-    bounds: &mut [u32],
-    key: &[i64],
-    scratch: &mut [i64],
-) -> usize
-    ensures { Placed result text.old text.new }
-{
-    let answer = evaluated(call, wires, bounds, key, scratch);
-    let to = print::refusal(output, text, at, answer);
-    let after = print::entries(output, text, to, wires);
-    let end = print::words(output, text, after, bounds);
-    print::entries(output, text, end, scratch)
+    let p = call.params();
+    let inputs = call.word();
+    let circuit = room.circuit(form, &mut call);
+    let b = call.fill(&mut bounds);
+    let bounds = &mut bounds[..b];
+    print::refusal(output, circuit.plan(p, inputs, bounds));
+    print::entries(output, bounds);
 }
 
 // Calls 13 and 18: as calls 12 and 17, with the wires as found before the bounds, and a switching key
 // and scratch after them. The wires stand in a buffer that is lent.
-pub fn evaluate<W: Write>(
-    output: &mut W,
-    call: &[i64],
-    text: &mut [u8],
-    at: usize,
-    wires: &mut [i64],
-) -> usize
-    ensures placed { Placed result text.old text.new }
-    ensures wires_len_unchanged { length wires.new ≡ length wires.old }
+pub fn evaluate<W: Write>(form: Form, mut call: Lent<'_>, output: &mut Output<W>, wires: &mut [i64])
+    ensures { length wires.new ≡ length wires.old }
 {
+    let mut room = Room::new();
     let mut bounds = [0u32; WIRES];
     let mut scratch = [0i64; MIDDLE];
-    let at_wires = past_gates(call);
-    let at_bounds = lent::past(call, at_wires);
-    let at_key = lent::past(call, at_bounds);
-    let key = lent::list(call, at_key);
-    let n = lent::buffer(call, at_wires, wires);
-    let b = lent::words(call, at_bounds, &mut bounds);
-    let s = lent::buffer(call, lent::past(call, at_key), &mut scratch);
-    put_evaluated(
+    let p = call.params();
+    let inputs = call.word();
+    let circuit = room.circuit(form, &mut call);
+    let n = call.fill(wires);
+    let b = call.fill(&mut bounds);
+    let key = call.list();
+    let s = call.fill(&mut scratch);
+    let wires = &mut wires[..n];
+    let bounds = &mut bounds[..b];
+    let scratch = &mut scratch[..s];
+    print::refusal(
         output,
-        call,
-        text,
-        at,
-        &mut wires[0..n],
-        &mut bounds[0..b],
-        key,
-        &mut scratch[0..s],
-    )
+        circuit.evaluate(p, inputs, wires, bounds, key, scratch),
+    );
+    print::entries(output, wires);
+    print::entries(output, bounds);
+    print::entries(output, scratch);
 }

@@ -1,8 +1,0 @@
--- The entries passed stand at the front of the buffer.
-use Rattle.std.proofs.Common.{map}
-use Rattle.calls.specs.Lent.{Taking}
-use Rattle.calls.specs.Width.{word}
-use Rattle.calls.proofs.lent.words.Given as goal
-
-abbrev pub invariant-loop-i : goal.invariant-loop-i
-invariant-loop-i l = Taking l.xs (map word l.xs) l.initial.out l.out l.i-end l.i
