@@ -3,11 +3,11 @@ use Rattle.std.proofs.Common.{◌≡◌, refl, subst, List, [], ◌∷◌, ◌/�
 use Rattle.std.specs.Simd.{first_chunks}
 use Rattle.whole.specs.Lists.{cut}
 use Rattle.refusal.specs.declared.Params.{Params}
-use Rattle.refusal.specs.declared.Refusal.{Refusal}
+use Rattle.refusal.specs.Answer.{Answer}
 use Rattle.refusal.specs.Parameters.{sheet}
 use Rattle.scheme.specs.Calls.{make_key_loans, MakeKeyPromise, bench_loans}
 
-pub bench_made : {p : Params} {s masks f : List ℤ} {r : Refusal} {key : List ℤ} → p ≡ sheet 1
+pub bench_made : {p : Params} {s masks f : List ℤ} {r : Answer} {key : List ℤ} → p ≡ sheet 1
     → MakeKeyPromise (make_key_loans p s masks f (replicate 64 (pos 0))) r key → MakeKeyPromise (bench_loans s masks f) r key
 bench_made {s = s} {masks = masks} {f = f} {r = r} {key = key} e =
     subst (λ (x : Params). MakeKeyPromise (make_key_loans x s masks f (replicate 64 (pos 0))) r key) e

@@ -4,7 +4,7 @@ use Rattle.std.proofs.Math.Path.{refl, sym, ap}
 use Rattle.std.proofs.Common.{◌∙◌, arith, length-take-le}
 use mathlib.Core.List.{List, [], ◌∷◌, ◌++◌}
 use Rattle.whole.specs.Tests.{clash, or_neither}
-use Rattle.refusal.specs.declared.Refusal.{Refusal}
+use Rattle.refusal.specs.Answer.{Answer}
 use Rattle.refusal.specs.declared.Params.{Params}
 use Rattle.refusal.specs.First.{Row, row_of, first_of, answer_of, Clear, clear_append, answer_rest, answer_none}
 use Rattle.refusal.specs.Exact.{before, IsFirst, Exact, is_other, exact, true_inside}
@@ -124,5 +124,5 @@ module _ (a : EvaluateLoans) where
   pub plan_agrees : Clear (evaluate_front a) → (plan_answer l ≡ evaluate_answer a) × (plan_bounds l ≡ evaluate_bounds a)
   unfolding plan_answer plan_bounds evaluate_answer evaluate_bounds
   plan_agrees own =
-      let k : first_of (plan_rows l) ≡ first_of (evaluate_rows a) = ap (λ (x : Refusal). x.number) (agreed own) in
+      let k : first_of (plan_rows l) ≡ first_of (evaluate_rows a) = ap (λ (x : Answer). x.number) (agreed own) in
       (agreed own, rw k)

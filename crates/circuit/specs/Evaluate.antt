@@ -4,7 +4,7 @@ use Rattle.std.specs.Prelude.{◌≡◌, ◌||◌, ℕ, ◌*◌, ℤ, pos, lengt
 use Rattle.std.proofs.Common.{subst}
 use mathlib.Core.List.{List, [], ◌∷◌, ◌++◌, flatten}
 use Rattle.whole.specs.Lists.{cut}
-use Rattle.refusal.specs.declared.Refusal.{Refusal}
+use Rattle.refusal.specs.Answer.{Answer}
 use Rattle.refusal.specs.First.{Row, row, first_of, answer_of, done_or}
 use Rattle.scheme.specs.Calls.{bad_params, differs, outside}
 use Rattle.circuit.specs.Circuits.{bad_counts, bounds_of, wires_of}
@@ -37,7 +37,7 @@ evaluate_front a =
 unfoldable pub evaluate_rows : EvaluateLoans → List Row
 evaluate_rows a = evaluate_front a ++ (shared_rows a.plan ++ circuit_rows a.plan)
 
-unfoldable pub evaluate_answer : EvaluateLoans → Refusal
+unfoldable pub evaluate_answer : EvaluateLoans → Answer
 evaluate_answer a = answer_of (evaluate_rows a)
 
 -- every gate's wire is as defined, and the inputs stand
@@ -54,13 +54,13 @@ evaluate_bounds a = let l = a.plan in done_or (first_of (evaluate_rows a)) (boun
 unfoldable pub evaluate_scratch : EvaluateLoans → List ℤ
 evaluate_scratch a = done_or (first_of (evaluate_rows a)) (replicate (a.plan.p.n * a.plan.p.n) (pos 0)) a.scratch
 
-pub record EvaluatePromise (a : EvaluateLoans) (r : Refusal) (wires : List ℤ) (bounds : List ℕ) (scratch : List ℤ) : Type 0 where
+pub record EvaluatePromise (a : EvaluateLoans) (r : Answer) (wires : List ℤ) (bounds : List ℕ) (scratch : List ℤ) : Type 0 where
   pub answer : r ≡ evaluate_answer a
   pub wires_left : wires ≡ evaluate_wires a
   pub bounds_left : bounds ≡ evaluate_bounds a
   pub scratch_left : scratch ≡ evaluate_scratch a
 
 -- equal loans have one promise
-pub evaluate_alike : {a b : EvaluateLoans} {r : Refusal} {wires : List ℤ} {bounds : List ℕ} {scratch : List ℤ} → a ≡ b
+pub evaluate_alike : {a b : EvaluateLoans} {r : Answer} {wires : List ℤ} {bounds : List ℕ} {scratch : List ℤ} → a ≡ b
     → EvaluatePromise a r wires bounds scratch → EvaluatePromise b r wires bounds scratch
 evaluate_alike {r = r} {wires = wires} {bounds = bounds} {scratch = scratch} e = subst (λ (x : EvaluateLoans). EvaluatePromise x r wires bounds scratch) e

@@ -3,7 +3,7 @@
 -- theorem of any row (`exact` of the crate refusal), for rows that end with those of the gates: planning's, evaluation's, and those of a circuit file.
 use Rattle.std.specs.Prelude.{◌≡◌, Bool, true, false, ℕ, ◌+◌, ◌*◌, ◌≤◌, ◌<◌, length, get_or}
 use mathlib.Core.List.{List}
-use Rattle.refusal.specs.declared.Refusal.{Refusal}
+use Rattle.refusal.specs.Answer.{Answer}
 use Rattle.refusal.specs.declared.Params.{Params}
 use Rattle.refusal.specs.First.{refused}
 use Rattle.circuit.specs.declared.Gate.{Gate}
@@ -23,7 +23,7 @@ pub record FirstOver (p : Params) (inputs : ℕ) (gates : List Gate) (Bs : List 
   pub first : (i : ℕ) → i < g → 4 * bound_at p inputs gates Bs i < p.q
 
 -- what is exact about the answer r
-pub record BudgetExact (p : Params) (inputs : ℕ) (gates : List Gate) (Bs : List ℕ) (r : Refusal) : Type 0 where
+pub record BudgetExact (p : Params) (inputs : ℕ) (gates : List Gate) (Bs : List ℕ) (r : Answer) : Type 0 where
   -- where some gate's bound does not fit, the number is 10
   pub refuses : (g : ℕ) → g < length gates → p.q ≤ 4 * bound_at p inputs gates Bs g → r.number ≡ 10
   -- only there, and the place is the first such gate
@@ -43,7 +43,7 @@ pub record FirstWrong (inputs : ℕ) (gates : List Gate) (g : ℕ) : Type 0 wher
   pub wrong : wrong_at inputs gates g ≡ true
   pub first : (i : ℕ) → i < g → wrong_at inputs gates i ≡ false
 
-pub record WrongExact (inputs : ℕ) (gates : List Gate) (r : Refusal) : Type 0 where
+pub record WrongExact (inputs : ℕ) (gates : List Gate) (r : Answer) : Type 0 where
   -- where some gate is wrong, the number is 9
   pub refuses : (g : ℕ) → g < length gates → wrong_at inputs gates g ≡ true → r.number ≡ 9
   -- only there, and the place is the first such gate
@@ -52,8 +52,8 @@ pub record WrongExact (inputs : ℕ) (gates : List Gate) (r : Refusal) : Type 0 
 -- ---- planning and evaluation
 
 -- of what planning is lent
-abbrev pub BudgetExactFor : PlanLoans → Refusal → Type 0
+abbrev pub BudgetExactFor : PlanLoans → Answer → Type 0
 BudgetExactFor a r = BudgetExact a.p a.inputs a.circuit.gates (stated a) r
 
-abbrev pub WrongExactFor : PlanLoans → Refusal → Type 0
+abbrev pub WrongExactFor : PlanLoans → Answer → Type 0
 WrongExactFor a r = WrongExact a.inputs a.circuit.gates r

@@ -3,7 +3,7 @@
 use Rattle.std.specs.Prelude.{◌≡◌, not, ◌||◌, List, [], ◌∷◌, ◌++◌, ℕ, ◌+◌, length, take}
 use Rattle.std.proofs.Common.{subst}
 use Rattle.whole.specs.Lists.{every}
-use Rattle.refusal.specs.declared.Refusal.{Refusal}
+use Rattle.refusal.specs.Answer.{Answer}
 use Rattle.refusal.specs.declared.Params.{Params}
 use Rattle.refusal.specs.First.{Row, row, first_of, answer_of, done_or}
 use Rattle.scheme.specs.Arithmetic.{fits}
@@ -47,17 +47,17 @@ plan_front a =
 unfoldable pub plan_rows : PlanLoans → List Row
 plan_rows a = plan_front a ++ circuit_rows a
 
-unfoldable pub plan_answer : PlanLoans → Refusal
+unfoldable pub plan_answer : PlanLoans → Answer
 plan_answer a = answer_of (plan_rows a)
 
 -- the bounds of the gates are written, and the inputs' stand
 unfoldable pub plan_bounds : PlanLoans → List ℕ
 plan_bounds a = done_or (first_of (plan_rows a)) (bounds_of a.p a.circuit.gates (stated a)) a.bounds
 
-pub record PlanPromise (a : PlanLoans) (r : Refusal) (bounds : List ℕ) : Type 0 where
+pub record PlanPromise (a : PlanLoans) (r : Answer) (bounds : List ℕ) : Type 0 where
   pub answer : r ≡ plan_answer a
   pub bounds_left : bounds ≡ plan_bounds a
 
 -- equal loans have one promise
-pub plan_alike : {a b : PlanLoans} {r : Refusal} {bounds : List ℕ} → a ≡ b → PlanPromise a r bounds → PlanPromise b r bounds
+pub plan_alike : {a b : PlanLoans} {r : Answer} {bounds : List ℕ} → a ≡ b → PlanPromise a r bounds → PlanPromise b r bounds
 plan_alike {r = r} {bounds = bounds} e = subst (λ (x : PlanLoans). PlanPromise x r bounds) e

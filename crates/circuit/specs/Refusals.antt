@@ -7,7 +7,7 @@ use Rattle.whole.specs.Centred.{centred, rest}
 use Rattle.whole.specs.Lists.{every, grid, cut}
 use Rattle.whole.specs.Inner.{inner}
 use Rattle.refusal.specs.declared.Params.{Params}
-use Rattle.refusal.specs.declared.Refusal.{Refusal}
+use Rattle.refusal.specs.Answer.{Answer}
 use Rattle.refusal.specs.First.{first_of, place_of, done_or, some_true, first_true}
 use Rattle.refusal.specs.Parameters.{params, in_range}
 use Rattle.scheme.specs.Arithmetic.{is_residue, XOR, XOR_bound, NOT, NOT_bound, tensor_entry, tensor, key_rows, switch_entry, switch, AND, AND_bound, fits}
@@ -44,7 +44,7 @@ abbrev masks : List ℤ
 masks = four (pos 127) (− 128) (pos 0) (pos 0)
 
 -- what a call answers
-abbrev returned : Refusal → List ℤ
+abbrev returned : Answer → List ℤ
 returned r = pair (pos r.number) (pos r.place)
 
 abbrev gives : ℕ → ℕ → List ℤ

@@ -3,7 +3,7 @@ use Rattle.std.specs.Prelude.{◌≡◌, ℕ, ◌+◌, ◌*◌, ◌<◌}
 use Rattle.std.proofs.Math.Path.{sym}
 use Rattle.std.proofs.Common.{ap₂, ◌∙◌, arith}
 use mathlib.Core.List.{List, [], ◌∷◌, ◌++◌, flat_map}
-use Rattle.refusal.specs.declared.Refusal.{Refusal}
+use Rattle.refusal.specs.Answer.{Answer}
 use Rattle.refusal.specs.First.{Row, row, row_of, refused, first_of, answer_of, Clear, done_or_done}
 use Rattle.refusal.specs.Exact.{before, given_clear}
 use Rattle.circuit.specs.Circuits.{bounds_of, wrong_gates, gate_rows}
@@ -16,7 +16,7 @@ use Rattle.circuitfile.specs.Exact.{told, FileExact}
 
 -- ---- number and place come back
 
-told_as_one : (a : Refusal) → a.place < 65536 → told (65536 * a.number + a.place) ≡ a
+told_as_one : (a : Answer) → a.place < 65536 → told (65536 * a.number + a.place) ≡ a
 told_as_one a h = ap₂ refused (omega (arith, h)) (omega (arith, h))
 
 module _ (file : List ℕ) where

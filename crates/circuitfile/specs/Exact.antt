@@ -3,7 +3,7 @@
 -- are the bounds of the circuit in the file.
 use Rattle.std.specs.Prelude.{◌≡◌, ℕ, ◌*◌, ◌/◌, ◌%◌, ◌≤◌, ◌<◌, length}
 use mathlib.Core.List.{List}
-use Rattle.refusal.specs.declared.Refusal.{Refusal}
+use Rattle.refusal.specs.Answer.{Answer}
 use Rattle.refusal.specs.First.{Row, refused, Clear}
 use Rattle.refusal.specs.Exact.{before}
 use Rattle.circuit.specs.Exact.{bound_at, FirstOver}
@@ -12,7 +12,7 @@ use Rattle.circuitfile.specs.File.{file_params, file_inputs, file_gates, file_in
 -- ---- the statements
 
 -- the number and the place that are answered as one number
-abbrev pub told : ℕ → Refusal
+abbrev pub told : ℕ → Answer
 told r = refused (r / 65536) (r % 65536)
 
 -- the bound of gate g of the file, by the formula, from E for each input
@@ -20,7 +20,7 @@ abbrev pub file_bound_at : List ℕ → ℕ → ℕ
 file_bound_at file g = bound_at (file_params file) (file_inputs file) (file_gates file) (file_input_bounds file) g
 
 -- what is exact about the answer a, of a call on the file that has those rows
-pub record FileExact (file : List ℕ) (rows : List Row) (a : Refusal) : Type 0 where
+pub record FileExact (file : List ℕ) (rows : List Row) (a : Answer) : Type 0 where
   -- 10 is given only where no earlier number applies, and the place is the first gate whose bound does not fit
   pub given : a.number ≡ 10 → Clear (before 10 rows) × FirstOver (file_params file) (file_inputs file) (file_gates file) (file_input_bounds file) a.place
   -- where no earlier number applies and some gate's bound does not fit, it is given

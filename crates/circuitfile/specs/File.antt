@@ -3,7 +3,7 @@
 use Rattle.std.specs.Prelude.{◌≡◌, Bool, not, ◌&&◌, ℕ, ◌+◌, ◌*◌, ◌/◌, ◌%◌, ltb, eqb, length, get_or, replicate}
 use mathlib.Core.List.{List, [], ◌∷◌, ◌++◌, flat_map, foldl}
 use Rattle.whole.specs.Lists.{tabulate}
-use Rattle.refusal.specs.declared.Refusal.{Refusal}
+use Rattle.refusal.specs.Answer.{Answer}
 use Rattle.refusal.specs.declared.Params.{Params}
 use Rattle.refusal.specs.First.{Row, row, first_of, answer_of, done_or}
 use Rattle.refusal.specs.Parameters.{params}
@@ -80,7 +80,7 @@ plan_file_rows file buffer = head_rows file ++ (row 3 (differs (length buffer) (
 
 -- ---- the answers: 65,536 times the number plus the place
 
-abbrev pub as_one : Refusal → ℕ
+abbrev pub as_one : Answer → ℕ
 as_one r = 65536 * r.number + r.place
 
 unfoldable pub check_answer : List ℕ → ℕ

@@ -8,7 +8,7 @@ use native.Mathlib.Omega.{arith}
 use Rattle.std.proofs.Math.ListN.{length}
 use Rattle.whole.specs.Lists.{tabulate, length_tabulate, get_or_tabulate}
 use Rattle.refusal.specs.declared.Params.{Params}
-use Rattle.refusal.specs.declared.Refusal.{Refusal}
+use Rattle.refusal.specs.Answer.{Answer}
 use Rattle.refusal.specs.First.{first_of, done_or_done, done_or_refused}
 use Rattle.refusal.specs.Order.{position_in, order, position, in_order, Foremost}
 use Rattle.refusal.proofs.Order.{first_foremost}
@@ -61,9 +61,9 @@ refused_line_lem k at = pair_flat word_refused k at
 
 -- ---- the text, by what the check answers
 
-module _ (file : List ℕ) {a : Refusal} (e : a ≡ check_refusal file) where
+module _ (file : List ℕ) {a : Answer} (e : a ≡ check_refusal file) where
   number : a.number ≡ first_of (check_rows file)
-  number = ap (λ (a : Refusal). a.number) e
+  number = ap (λ (a : Answer). a.number) e
 
   pub text_refused : a.number ≢ 0 → pair_line (word_refused ++ (32 ∷ [])) a.number a.place ≡ text file
   unfolding text

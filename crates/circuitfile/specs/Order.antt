@@ -5,7 +5,7 @@ use Rattle.std.proofs.Common.{ap, ap₂, ◌∙◌, arith}
 use borrow.Author.Tests.{ltb-false, leb-true, not-false}
 use Rattle.whole.specs.Tests.{and_left, or_right}
 use Rattle.whole.specs.Lists.{nil, cons, length_tabulate}
-use Rattle.refusal.specs.declared.Refusal.{Refusal}
+use Rattle.refusal.specs.Answer.{Answer}
 use Rattle.refusal.specs.First.{Row, row, refused, First, first_given, first_of, place_of, answer_of, Clear, are_single, first_true, some_one, place_single, place_within, answer_front, answer_rest, answer_row, answer_past, first_zero, first_each}
 use Rattle.refusal.specs.Parameters.{within, InRange}
 use Rattle.scheme.specs.Calls.{bad_params, differs}
@@ -18,13 +18,13 @@ use Rattle.circuitfile.specs.File.{file_params, file_inputs, file_gate_count, fi
 
 -- ---- the answers, with number and place apart: of the gates alone, of the check, and of planning
 
-abbrev pub gate_answer : List ℕ → Refusal
+abbrev pub gate_answer : List ℕ → Answer
 gate_answer file = answer_of (file_gate_rows file)
 
-abbrev pub check_refusal : List ℕ → Refusal
+abbrev pub check_refusal : List ℕ → Answer
 check_refusal file = answer_of (check_rows file)
 
-abbrev pub plan_refusal : List ℕ → List ℕ → Refusal
+abbrev pub plan_refusal : List ℕ → List ℕ → Answer
 plan_refusal file buffer = answer_of (plan_file_rows file buffer)
 
 -- 3: planning's buffer has another length than four bytes a wire
@@ -127,12 +127,12 @@ module _ (file : List ℕ) where
     plan_settled buffer d = sym (answer_rest (head_rows file) _ r.clear ∙ answer_past 3 (other_length file buffer ∷ []) (file_gate_rows file) (some_one _ ∙ d))
 
   -- the check gives 0 only where the head does
-  pub check_passes : {a : Refusal} → a ≡ check_refusal file → a.number ≡ 0 → first_of (head_rows file) ≡ 0
+  pub check_passes : {a : Answer} → a ≡ check_refusal file → a.number ≡ 0 → first_of (head_rows file) ≡ 0
   check_passes {a} e z = by_number (first_of (head_rows file)) refl
     where
       by_number : (k : ℕ) → first_of (head_rows file) ≡ k → k ≡ 0
       by_number zero f = refl
-      by_number (suc k) f = ap (λ (a : Refusal). a.number) (check_headed (sym f) (λ y. omega (arith, y)) ∙ sym e) ∙ z
+      by_number (suc k) f = ap (λ (a : Answer). a.number) (check_headed (sym f) (λ y. omega (arith, y)) ∙ sym e) ∙ z
 
   -- ---- a place is a gate's, and so it is below 65,536
 
@@ -146,8 +146,8 @@ module _ (file : List ℕ) where
       by_number : (k : ℕ) → first_of (head_rows file) ≡ k → place_of (head_rows file ++ rest) < 65536
       by_number zero e =
           let r : HeadRight file = head_right e in
-          rw (ap (λ (a : Refusal). a.place) (answer_rest (head_rows file) rest r.clear)) (omega (arith, small r.gates_high))
-      by_number (suc k) e = rw (ap (λ (a : Refusal). a.place) (sym (headed (sym e) (λ y. omega (arith, y)) rest))) (omega arith)
+          rw (ap (λ (a : Answer). a.place) (answer_rest (head_rows file) rest r.clear)) (omega (arith, small r.gates_high))
+      by_number (suc k) e = rw (ap (λ (a : Answer). a.place) (sym (headed (sym e) (λ y. omega (arith, y)) rest))) (omega arith)
 
   pub check_place : (check_refusal file).place < 65536
   unfolding check_rows file_gate_rows gate_rows

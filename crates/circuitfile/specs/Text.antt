@@ -1,10 +1,11 @@
 -- Document 01, *Circuit file and printer*: the printed text, byte for byte, and what writing it into a lent buffer leaves.
-use Rattle.std.specs.Prelude.{◌≡◌, cond, ℕ, zero, suc, ◌+◌, ◌-◌, ◌/◌, ◌%◌, ltb, length, get_or, drop}
+use Rattle.std.specs.Prelude.{◌≡◌, cond, ℕ, zero, suc, ◌+◌, ◌-◌, ◌/◌, ◌%◌, ltb, length, get_or, drop, Result, Ok, Err}
 use mathlib.Core.List.{List, [], ◌∷◌, ◌++◌, flat_map}
 use Rattle.whole.specs.Lists.{tabulate}
+use Rattle.refusal.specs.declared.Refusal.{Refusal}
+use Rattle.refusal.specs.Answer.{refusal_number, refusal_place}
 use Rattle.refusal.specs.First.{Row, row, first_of, place_of, done_or}
 use Rattle.circuit.specs.Circuits.{by_kind}
-use Rattle.circuitfile.specs.declared.Printed.{Printed}
 use Rattle.circuitfile.specs.File.{file_params, file_inputs, file_gate_count, file_gate, file_bounds, check_rows}
 
 -- ---- words, in ASCII
@@ -89,8 +90,19 @@ text file =
 unfoldable pub text_rows : List ℕ → List ℕ → List Row
 text_rows file buffer = row 3 (ltb (length buffer) (length (text file))) ∷ []
 
+-- number and place, and beside them the text's length in bytes, which is 0 on a refusal
+pub record Printed : Type 0 where
+  pub number : ℕ
+  pub place : ℕ
+  pub bytes : ℕ
+
 abbrev pub printed : ℕ → ℕ → Printed
 printed k long = record { number = k; place = 0; bytes = long }
+
+-- the answer in the paper's form, of a call that answers a length, or why it refuses
+abbrev pub printed_of : Result ℕ Refusal → Printed
+printed_of (Ok long) = printed 0 long
+printed_of (Err r) = record { number = refusal_number r; place = refusal_place r; bytes = 0 }
 
 -- the text's length in bytes
 unfoldable pub text_answer : List ℕ → List ℕ → Printed

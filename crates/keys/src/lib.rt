@@ -4,32 +4,17 @@
 
 pub mod tests;
 
-ghost use Rattle.std.specs.Prelude.{◌≡◌};
-ghost use Rattle.scheme.specs.Calls.{key_check_loans, key_check_rows, KeyCheckPromise};
-ghost use Rattle.refusal.specs.First.{first_of};
+ghost use Rattle.refusal.specs.Answer.{answer_to};
+ghost use Rattle.scheme.specs.Calls.{key_check_loans, KeyCheckPromise};
 
-use refusal::{Params, Refusal};
+use refusal::{Params, Refusal, refuse_if};
 use tests::{is_bad_key, length_differs};
 
-// The number for a key: 1, 3, 4, or 0 where it fits.
-fn key_number(p: Params, s: &[i32]) -> u32
-    ensures { result ≡ first_of (key_check_rows (key_check_loans p s.now)) }
-{
-    if !p.in_range() {
-        return 1;
-    }
-    if length_differs(s.len(), p.n as usize) {
-        return 3;
-    }
-    refusal::row(4, is_bad_key(p.l, s), 0)
-}
-
 // Key check: whether s is a key for the parameters. Refusals 1, 3, 4.
-pub fn check_key(p: Params, s: &[i32]) -> Refusal
-    ensures { KeyCheckPromise (key_check_loans p s.now) result }
+pub fn check_key(p: Params, s: &[i32]) -> Result<(), Refusal>
+    ensures { KeyCheckPromise (key_check_loans p s.now) (answer_to result) }
 {
-    Refusal {
-        number: key_number(p, s),
-        place: 0,
-    }
+    refuse_if(!p.in_range(), Refusal::Parameters)?;
+    refuse_if(length_differs(s.len(), p.n as usize), Refusal::Length)?;
+    refuse_if(is_bad_key(p.l, s), Refusal::Key)
 }

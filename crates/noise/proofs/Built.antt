@@ -7,7 +7,7 @@ use Prim.Native.Nat.{ℕ, ◌*◌, ◌-◌}
 use Rattle.std.proofs.Math.ListN.{length}
 use Rattle.std.proofs.Math.IntN.{ℤ}
 use Rattle.whole.specs.Tests.{or_left, or_right}
-use Rattle.refusal.specs.declared.Refusal.{Refusal}
+use Rattle.refusal.specs.Answer.{Answer}
 use Rattle.refusal.specs.First.{first_of, done_or_done, Clear}
 use Rattle.refusal.specs.Order.{position_in, order, position, in_order}
 use Rattle.refusal.proofs.Order.{first_clear}
@@ -18,10 +18,10 @@ use Rattle.noise.specs.Built.{BuiltFor, made→built}
 
 -- ---- through the call: where the maker answers 0, what it left is built for the key that it was lent
 
-pub maker_builds : {a : MakeKeyLoans} {r : Refusal} {W : List ℤ} → MakeKeyPromise a r W → r.number ≡ 0 → BuiltFor a.p.n a.p.q a.p.f a.key W
+pub maker_builds : {a : MakeKeyLoans} {r : Answer} {W : List ℤ} → MakeKeyPromise a r W → r.number ≡ 0 → BuiltFor a.p.n a.p.q a.p.f a.key W
 unfolding position_in order position in_order make_key_rows make_key_answer make_key_result
 maker_builds {a} {r} {W} promise none =
-    let done : first_of (make_key_rows a) ≡ 0 = sym (ap (λ (x : Refusal). x.number) promise.answer) ∙ none in
+    let done : first_of (make_key_rows a) ≡ 0 = sym (ap (λ (x : Answer). x.number) promise.answer) ∙ none in
     let clear : Clear (make_key_rows a) = first_clear (make_key_rows a) refl done in
     let p = a.p in
     let n : ℕ = p.n in

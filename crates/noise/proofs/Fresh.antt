@@ -7,10 +7,8 @@ use Rattle.refusal.specs.First.{Clear, first_of, done_or_done}
 use Rattle.refusal.specs.Order.{position_in, order, position, in_order}
 use Rattle.refusal.proofs.Order.{first_clear}
 use Rattle.refusal.specs.Parameters.{InRange}
-use Rattle.scheme.specs.declared.Bounded.{Bounded}
-use Rattle.scheme.specs.declared.Decrypted.{Decrypted}
+use Rattle.scheme.specs.Calls.{Bounded, Decrypted, differs, EncryptLoans, encrypt_rows, encrypt_answer, encrypt_result, EncryptPromise, decrypt_loans, DecryptPromise, decrypts_to}
 use Rattle.scheme.specs.Arithmetic.{encrypt}
-use Rattle.scheme.specs.Calls.{differs, EncryptLoans, encrypt_rows, encrypt_answer, encrypt_result, EncryptPromise, decrypt_loans, DecryptPromise, decrypts_to}
 use Rattle.scheme.specs.Passed.{params_in_range, length_is, key_begins, bit_within, entries_inside, errors_within}
 use Rattle.noise.specs.Gates.{encrypt_noise, length_encrypt, encrypt_residues}
 use Rattle.noise.specs.Sound.{KeyFits, Sound}

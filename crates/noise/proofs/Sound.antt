@@ -5,9 +5,8 @@ use Rattle.whole.specs.Lists.{every}
 use Rattle.refusal.specs.declared.Params.{Params}
 use Rattle.refusal.specs.First.{first_of, done_or, first_row, first_none}
 use Rattle.refusal.specs.Parameters.{InRange}
-use Rattle.scheme.specs.declared.Decrypted.{Decrypted}
+use Rattle.scheme.specs.Calls.{Decrypted, outside, decrypt_loans, decrypt_rows, decrypt_answer, DecryptPromise, decrypts_to}
 use Rattle.scheme.specs.Arithmetic.{is_residue, decrypt}
-use Rattle.scheme.specs.Calls.{outside, decrypt_loans, decrypt_rows, decrypt_answer, DecryptPromise, decrypts_to}
 use Rattle.scheme.specs.Passed.{params_in_range, lengths_same}
 use Rattle.scheme.specs.Foremost.{decrypt_place}
 use Rattle.noise.proofs.Gates.{decrypt_right}

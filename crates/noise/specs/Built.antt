@@ -14,7 +14,7 @@ use Rattle.whole.specs.Centred.{centred}
 use Rattle.whole.proofs.Centred.{centred_le, centred_add}
 use Rattle.whole.specs.Lists.{tabulate, length_tabulate, get_or_tabulate, tabulate_cong, tabulate_take, Each, each_get_or, each_tabulate, every, every_append, every_get_or, every_drop, each_every, cut}
 use Rattle.whole.specs.Inner.{inner, column}
-use Rattle.refusal.specs.declared.Refusal.{Refusal}
+use Rattle.refusal.specs.Answer.{Answer}
 use Rattle.refusal.specs.First.{first_of, Clear, first_row, first_none}
 use Rattle.refusal.specs.Order.{position_in, order, position, in_order}
 use Rattle.refusal.proofs.Order.{first_clear}
@@ -148,10 +148,10 @@ module _ (n q : ℕ) (s : List ℤ) (some : 0 < n) (h : 0 < q) (even : q ≡ 2 *
 -- ---- through the call: where the maker answers 0, what it left is built for the key that it was lent
 
 -- and that key passes the key check
-pub maker_key : {a : MakeKeyLoans} {r : Refusal} {W : List ℤ} → MakeKeyPromise a r W → r.number ≡ 0 → (key_check_answer (key_check_loans a.p a.key)).number ≡ 0
+pub maker_key : {a : MakeKeyLoans} {r : Answer} {W : List ℤ} → MakeKeyPromise a r W → r.number ≡ 0 → (key_check_answer (key_check_loans a.p a.key)).number ≡ 0
 unfolding position_in order position in_order make_key_rows make_key_answer key_check_rows key_check_answer
 maker_key {a} promise none =
-    let done : first_of (make_key_rows a) ≡ 0 = sym (ap (λ (x : Refusal). x.number) promise.answer) ∙ none in
+    let done : first_of (make_key_rows a) ≡ 0 = sym (ap (λ (x : Answer). x.number) promise.answer) ∙ none in
     let clear : Clear (make_key_rows a) = first_clear (make_key_rows a) refl done in
     let lengths = clear.1.0.0 in
     let long : differs (length a.key) a.p.n ≡ false = search (or_left, or_right, lengths) depth 10 in

@@ -1,8 +1,7 @@
 -- A fresh encryption is sound, with the bound E that it states, and decrypts to its bit: through the two calls, whatever key, bit, mask and error are lent, where
 -- encryption answers 0.
 use Rattle.std.specs.Prelude.{◌≡◌, List, ℤ}
-use Rattle.scheme.specs.declared.Bounded.{Bounded}
-use Rattle.scheme.specs.Calls.{EncryptLoans}
+use Rattle.scheme.specs.Calls.{Bounded, EncryptLoans}
 use Rattle.noise.specs.Sound.{KeyFits, Sound}
 
 -- what follows where encryption answers 0

@@ -1,4 +1,5 @@
 pub mod First
+pub mod Given
 pub mod Lowest
 pub mod Order
 pub mod Parameters

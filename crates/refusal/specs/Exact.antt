@@ -3,7 +3,7 @@ use Rattle.std.specs.Prelude.{◌≡◌, refl, ◌≢◌, Bool, true, false, con
 use Rattle.std.proofs.Common.{suc-le-suc, arith, eq-eqb}
 use Rattle.std.proofs.lemmas.Bool.{not-true}
 use Rattle.whole.specs.Tests.{and_left, and_right, clash}
-use Rattle.refusal.specs.declared.Refusal.{Refusal}
+use Rattle.refusal.specs.Answer.{Answer}
 use Rattle.refusal.specs.First.{Row, some_true, first_true, refused, first_of, place_of, answer_of, Clear, all_false, answer_rest, first_is_true, none_before_first, none_at}
 
 -- the rows that stand in front of the first with the number k: those that a call meets before it
@@ -17,7 +17,7 @@ pub record IsFirst (tests : List Bool) (g : ℕ) : Type 0 where
   pub first : (i : ℕ) → i < g → get_or tests i false ≡ false
 
 -- what is exact about the answer a, of the row r and those behind it
-pub record Exact (r : Row) (rest : List Row) (a : Refusal) : Type 0 where
+pub record Exact (r : Row) (rest : List Row) (a : Answer) : Type 0 where
   -- where some test is true the number is the row's ..
   pub refuses : (g : ℕ) → get_or r.tests g false ≡ true → a.number ≡ r.number
   -- .. and only there, and the place is the first such

@@ -5,7 +5,7 @@ use Rattle.std.specs.Prelude.{◌≡◌, refl, ◌⊎◌, ◌≢◌, Bool, true,
 use Rattle.std.proofs.Common.{sym, ap, ◌∙◌, inl, inr, suc-le-suc, not-suc-le-zero, le_of_suc-le-suc, zero-lt-suc, arith, eqb-true}
 use Rattle.whole.specs.Tests.{clash, and_left, and_right}
 use Rattle.whole.specs.Lists.{Each, nil, cons}
-use Rattle.refusal.specs.declared.Refusal.{Refusal}
+use Rattle.refusal.specs.Answer.{Answer}
 
 -- ---- rows
 
@@ -33,7 +33,7 @@ first_true (t ∷ ts) = cond t 0 (suc (first_true ts))
 
 -- ---- what is answered
 
-abbrev pub refused : ℕ → ℕ → Refusal
+abbrev pub refused : ℕ → ℕ → Answer
 refused k at = record { number = k; place = at }
 
 -- the number of the first row that applies, 0 if none does
@@ -46,7 +46,7 @@ unfoldable pub place_of : List Row → ℕ
 place_of [] = 0
 place_of (r ∷ rows) = cond (some_true r.tests) (first_true r.tests) (place_of rows)
 
-abbrev pub answer_of : List Row → Refusal
+abbrev pub answer_of : List Row → Answer
 answer_of rows = refused (first_of rows) (place_of rows)
 
 -- what a call leaves: a where its number is 0, z where it refuses
@@ -121,6 +121,10 @@ unfolding some_true
 some_one true = refl
 some_one false = refl
 
+pub first_one : (t : Bool) → t ≡ true → first_true (t ∷ []) ≡ 0
+unfolding first_true
+first_one t e = rw e
+
 pub first_row : (k : ℕ) (t : Bool) (rows : List Row) → first_of (row k t ∷ rows) ≡ cond t k (first_of rows)
 unfolding first_of
 first_row k t rows = ap (λ (b : Bool). cond b k (first_of rows)) (some_one t)
@@ -176,7 +180,7 @@ answer_rest [] rest clear = refl
 answer_rest (r ∷ front) rest clear = rw (none_true r.tests clear.0) (answer_rest front rest clear.1)
 
 pub first_rest : (front rest : List Row) → Clear front → first_of (front ++ rest) ≡ first_of rest
-first_rest front rest clear = ap (λ (a : Refusal). a.number) (answer_rest front rest clear)
+first_rest front rest clear = ap (λ (a : Answer). a.number) (answer_rest front rest clear)
 
 pub clear_append : (front rest : List Row) → Clear (front ++ rest) → Clear front × Clear rest
 clear_append [] rest c = (tt, c)

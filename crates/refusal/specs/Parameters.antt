@@ -1,14 +1,15 @@
 -- Document 01, *Parameters*: the ranges of n, q, L, E and F, the six house sheets, and what the maker of a set answers.
-use Rattle.std.specs.Prelude.{◌≡◌, refl, Bool, true, false, not, cond, ◌&&◌, List, [], ◌∷◌, map, ℕ, zero, suc, ◌*◌, ◌/◌, ◌%◌, ◌≤◌, ◌<◌, leb, ltb, eqb, length, get_or}
-use Rattle.std.proofs.Common.{ap, ◌∙◌, arith}
+use Rattle.std.specs.Prelude.{◌≡◌, refl, Bool, true, false, not, cond, ◌&&◌, List, [], ◌∷◌, map, ℕ, ◌*◌, ◌/◌, ◌%◌, ◌≤◌, ◌<◌, leb, ltb, eqb, length, get_or, Result, Ok, Err}
+use Rattle.std.proofs.Common.{sym, ap, ◌∙◌, arith}
 use Rattle.std.proofs.Math.ListN.{get_or-map}
 use borrow.Author.Tests.{ltb-true, leb-true, eqb-true, lt-ltb, le-ltb, le-leb, eq-eqb}
 use Rattle.whole.specs.Tests.{and_left, and_right, and_both}
 use Rattle.whole.specs.Lists.{every}
 use Rattle.refusal.specs.declared.Params.{Params}
-use Rattle.refusal.specs.declared.Made.{Made}
-use Rattle.refusal.specs.declared.Made.TheVariants.{Set, Refused}
-use Rattle.refusal.specs.First.{Row, row, refused, first_of, first_last, done_or}
+use Rattle.refusal.specs.declared.Refusal.{Refusal}
+use Rattle.refusal.specs.declared.Refusal.TheVariants.{Parameters}
+use Rattle.refusal.specs.Answer.{refusal_number, refusal_place}
+use Rattle.refusal.specs.First.{Row, row, first_of, first_last, done_or}
 
 abbrev pub params : ℕ → ℕ → ℕ → ℕ → ℕ → Params
 params n q l e f = record { n = n; q = q; l = l; e = e; f = f }
@@ -69,78 +70,74 @@ abbrev pub sheet_number : ℕ → ℕ
 sheet_number k = first_of (sheet_rows k)
 
 -- number, place and parameters of each case of the answer
-unfoldable pub made_number : Made → ℕ
-made_number (Set p) = 0
-made_number (Refused r) = r.number
+unfoldable pub made_number : Result Params Refusal → ℕ
+made_number (Ok p) = 0
+made_number (Err r) = refusal_number r
 
-unfoldable pub made_place : Made → ℕ
-made_place (Set p) = 0
-made_place (Refused r) = r.place
+unfoldable pub made_place : Result Params Refusal → ℕ
+made_place (Ok p) = 0
+made_place (Err r) = refusal_place r
 
-unfoldable pub made_params : Made → Params
-made_params (Set p) = p
-made_params (Refused r) = no_params
+unfoldable pub made_params : Result Params Refusal → Params
+made_params (Ok p) = p
+made_params (Err r) = no_params
 
--- the answer with the number k, about the parameters p
-unfoldable pub answered : ℕ → Params → Made
-answered k p = done_or k (Set p) (Refused (refused k 0))
+-- the answer about the parameters p, of one row with the test t: the set, or refusal 1
+unfoldable pub answered : Bool → Params → Result Params Refusal
+answered t p = cond t (Err Parameters) (Ok p)
 
-unfoldable pub made : Params → Made
-made p = answered (make_number p) p
+unfoldable pub made : Params → Result Params Refusal
+made p = answered (not (in_range p)) p
 
-unfoldable pub made_sheet : ℕ → Made
-made_sheet k = answered (sheet_number k) (sheet k)
+unfoldable pub made_sheet : ℕ → Result Params Refusal
+made_sheet k = answered (not (ltb k (length sheets))) (sheet k)
 
-pub answered_number : (k : ℕ) (p : Params) → made_number (answered k p) ≡ k
-unfolding made_number answered done_or
-answered_number zero p = refl
-answered_number (suc k) p = refl
+pub answered_number : (t : Bool) (p : Params) → made_number (answered t p) ≡ first_of (row 1 t ∷ [])
+unfolding made_number answered
+answered_number true p = sym (first_last 1 true)
+answered_number false p = sym (first_last 1 false)
 
-pub answered_place : (k : ℕ) (p : Params) → made_place (answered k p) ≡ 0
-unfolding made_place answered done_or
-answered_place zero p = refl
-answered_place (suc k) p = refl
+pub answered_place : (t : Bool) (p : Params) → made_place (answered t p) ≡ 0
+unfolding made_place answered
+answered_place true p = refl
+answered_place false p = refl
 
-pub answered_params : (k : ℕ) (p : Params) → made_params (answered k p) ≡ done_or k p no_params
+pub answered_params : (t : Bool) (p : Params) → made_params (answered t p) ≡ done_or (first_of (row 1 t ∷ [])) p no_params
 unfolding made_params answered done_or
-answered_params zero p = refl
-answered_params (suc k) p = refl
+answered_params true p = rw (first_last 1 true)
+answered_params false p = rw (first_last 1 false)
 
--- the enum that is answered, and beside it its number, place and parameters
-abbrev pub Values : ℕ → Params → Made → Type 0
-Values k p r = (r ≡ answered k p) × ((made_number r ≡ k) × ((made_place r ≡ 0) × (made_params r ≡ done_or k p no_params)))
+-- what is answered, and beside it its number, place and parameters
+abbrev pub Values : ℕ → Params → Result Params Refusal → Result Params Refusal → Type 0
+Values k p a r = (r ≡ a) × ((made_number r ≡ k) × ((made_place r ≡ 0) × (made_params r ≡ done_or k p no_params)))
 
-values : (k : ℕ) (p : Params) {r : Made} → r ≡ answered k p → Values k p r
-values k p e = (e, (ap made_number e ∙ answered_number k p, (ap made_place e ∙ answered_place k p, ap made_params e ∙ answered_params k p)))
+values : (t : Bool) (p : Params) {r : Result Params Refusal} → r ≡ answered t p → Values (first_of (row 1 t ∷ [])) p (answered t p) r
+values t p e = (e, (ap made_number e ∙ answered_number t p, (ap made_place e ∙ answered_place t p, ap made_params e ∙ answered_params t p)))
 
-pub made_values : (p : Params) {r : Made} → r ≡ made p → Values (make_number p) p r
-unfolding made
-made_values p e = values (make_number p) p e
+pub made_values : (p : Params) {r : Result Params Refusal} → r ≡ made p → Values (make_number p) p (made p) r
+unfolding made make_rows
+made_values p e = values (not (in_range p)) p e
 
-pub sheet_values : (k : ℕ) {r : Made} → r ≡ made_sheet k → Values (sheet_number k) (sheet k) r
-unfolding made_sheet
-sheet_values k e = values (sheet_number k) (sheet k) e
+pub sheet_values : (k : ℕ) {r : Result Params Refusal} → r ≡ made_sheet k → Values (sheet_number k) (sheet k) (made_sheet k) r
+unfolding made_sheet sheet_rows
+sheet_values k e = values (not (ltb k (length sheets))) (sheet k) e
 
 -- the maker's two answers, and the sheet's
-pub made_set : (p : Params) → in_range p ≡ true → made p ≡ Set p
-unfolding made make_rows answered done_or
-made_set p e = rw (first_last, e)
+pub made_set : (p : Params) → in_range p ≡ true → made p ≡ Ok p
+unfolding made answered
+made_set p e = rw e
 
-pub made_refused : (p : Params) → in_range p ≡ false → made p ≡ Refused (refused 1 0)
-unfolding made make_rows answered done_or
-made_refused p e = rw (first_last, e)
+pub made_refused : (p : Params) → in_range p ≡ false → made p ≡ Err Parameters
+unfolding made answered
+made_refused p e = rw e
 
-sheet_number_lem : (k : ℕ) {t : Bool} → ltb k 6 ≡ t → sheet_number k ≡ cond (not t) 1 0
-unfolding sheet_rows sheets sheet_table
-sheet_number_lem k e = first_last 1 (not (ltb k 6)) ∙ rw e
+pub sheet_set : (k : ℕ) → k < 6 → made_sheet k ≡ Ok (of_row (get_or sheet_table k []))
+unfolding made_sheet answered sheet sheets sheet_table
+sheet_set k h = rw (lt-ltb k 6 h) (ap Ok (get_or-map of_row sheet_table k []))
 
-pub sheet_set : (k : ℕ) → k < 6 → made_sheet k ≡ Set (of_row (get_or sheet_table k []))
-unfolding made_sheet answered done_or sheet sheets
-sheet_set k h = rw (sheet_number_lem k (lt-ltb k 6 h)) (ap Set (get_or-map of_row sheet_table k []))
-
-pub sheet_refused : (k : ℕ) → 6 ≤ k → made_sheet k ≡ Refused (refused 1 0)
-unfolding made_sheet answered done_or
-sheet_refused k h = rw (sheet_number_lem k (le-ltb k 6 h))
+pub sheet_refused : (k : ℕ) → 6 ≤ k → made_sheet k ≡ Err Parameters
+unfolding made_sheet answered sheets sheet_table
+sheet_refused k h = rw (le-ltb k 6 h)
 
 -- ---- the ranges as facts
 

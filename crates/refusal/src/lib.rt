@@ -1,25 +1,101 @@
 // What every public call answers with, and the parameter set that every public call is lent.
 #![tactic(auto)]
 
-ghost use Rattle.std.specs.Prelude.{◌≡◌, cond, ◌≤◌, ◌<◌};
+ghost use Rattle.std.specs.Prelude.{◌≡◌, ◌≤◌, ◌<◌};
+ghost use Rattle.refusal.specs.Answer.{refusal_number, refusal_place, RefusesWhen};
 ghost use Rattle.refusal.specs.First.{done_or};
 ghost use Rattle.refusal.specs.Parameters.{params, no_params, within, in_range, sheet, make_number, sheet_number, made_number, made_place, made_params, made, made_sheet};
 
-// A refusal number with its place. Number 0 is done, and the place is 0 except for a gate of a circuit.
-#[derive(Clone, Copy)]
-pub struct Refusal {
-    pub number: u32,
-    pub place: u64,
+use std::error::Error;
+use std::fmt;
+
+// Why a call refuses, one for each refusal number. Of a circuit's gates it says which: the first gate that is wrong, or whose bound does not fit.
+#[derive(Clone, Copy, Debug, PartialEq, Eq)]
+pub enum Refusal {
+    Parameters,
+    Counts,
+    Length,
+    Key,
+    Bit,
+    Entry,
+    Error,
+    Bound,
+    Gate(u64),
+    Budget(u64),
+    Mark,
+    FileLength,
 }
 
-// A row of a call's refusals: its number where it applies, and otherwise the number of the rows after it.
-pub fn row(number: u32, applies: bool, later: u32) -> u32
-    ensures { result ≡ cond applies number later }
+impl Refusal {
+    // The refusal number.
+    pub fn number(self) -> u32
+        ensures { result ≡ refusal_number self }
+    {
+        match self {
+            Refusal::Parameters => 1,
+            Refusal::Counts => 2,
+            Refusal::Length => 3,
+            Refusal::Key => 4,
+            Refusal::Bit => 5,
+            Refusal::Entry => 6,
+            Refusal::Error => 7,
+            Refusal::Bound => 8,
+            Refusal::Gate(_) => 9,
+            Refusal::Budget(_) => 10,
+            Refusal::Mark => 11,
+            Refusal::FileLength => 12,
+        }
+    }
+
+    // The place: the gate, and 0 of what is no gate of a circuit.
+    pub fn place(self) -> u64
+        ensures { result ≡ refusal_place self }
+    {
+        match self {
+            Refusal::Gate(gate) | Refusal::Budget(gate) => gate,
+            _ => 0,
+        }
+    }
+}
+
+impl fmt::Display for Refusal {
+    fn fmt<W: fmt::Write>(&self, f: &mut fmt::Formatter<W>) -> fmt::Result {
+        match self {
+            Refusal::Parameters => f.write_str("a parameter or sheet is outside its range"),
+            Refusal::Counts => f.write_str("the count of inputs or gates is outside its range"),
+            Refusal::Length => f.write_str("a lent buffer's length differs from the one required"),
+            Refusal::Key => f.write_str("the key does not begin with 1, or its sum exceeds L"),
+            Refusal::Bit => f.write_str("a bit is neither 0 nor 1"),
+            Refusal::Entry => {
+                f.write_str("a mask, ciphertext or switching entry is outside its range")
+            }
+            Refusal::Error => f.write_str("a lent error exceeds its limit"),
+            Refusal::Bound => f.write_str("four times a stated bound is at or above q"),
+            Refusal::Gate(gate) => {
+                write!(
+                    f,
+                    "the kind, an operand or NOT's right of gate {gate} is wrong"
+                )
+            }
+            Refusal::Budget(gate) => {
+                write!(f, "four times the bound of gate {gate} is at or above q")
+            }
+            Refusal::Mark => f.write_str("the file's mark or version is unknown"),
+            Refusal::FileLength => f.write_str("the file's length is wrong"),
+        }
+    }
+}
+
+impl Error for Refusal {}
+
+// A row of a call's refusals: where it applies the call refuses, and otherwise it goes on.
+pub fn refuse_if(applies: bool, refusal: Refusal) -> Result<(), Refusal>
+    ensures { RefusesWhen applies refusal result }
 {
     if applies {
-        return number;
+        return Err(refusal);
     }
-    later
+    Ok(())
 }
 
 // A parameter set: the entries n of a ciphertext, the modulus q, and the limits L on the key, E on a fresh error and F on a
@@ -31,13 +107,6 @@ pub struct Params {
     pub l: u32,
     pub e: u32,
     pub f: u32,
-}
-
-// What the maker of parameter sets answers.
-#[derive(Clone, Copy)]
-pub enum Made {
-    Set(Params),
-    Refused(Refusal),
 }
 
 // The six house sheets: n, q, L, E and F of each.
@@ -54,7 +123,7 @@ const SHEETS: [[u32; 5]; 6] = [
 fn is_within(low: u32, high: u32, x: u32) -> bool
     ensures { result ≡ within low high x }
 {
-    (low <= x) & (x <= high)
+    (low..=high).contains(&x)
 }
 
 impl Params {
@@ -84,37 +153,29 @@ impl Params {
     }
 
     // The set of these numbers, or refusal 1 where one of them is outside its range.
-    pub fn make(n: u32, q: u32, l: u32, e: u32, f: u32) -> Made
+    pub fn make(n: u32, q: u32, l: u32, e: u32, f: u32) -> Result<Params, Refusal>
         ensures value { result ≡ made (params n q l e f) }
         ensures number { made_number result ≡ make_number (params n q l e f) }
         ensures place { made_place result ≡ 0 }
         ensures params { made_params result ≡ done_or (make_number (params n q l e f)) (params n q l e f) no_params }
     {
         let p = Params { n, q, l, e, f };
-        if p.in_range() {
-            return Made::Set(p);
-        }
-        Made::Refused(Refusal {
-            number: 1,
-            place: 0,
-        })
+        refuse_if(!p.in_range(), Refusal::Parameters)?;
+        Ok(p)
     }
 
     // House sheet k, or refusal 1 where there is none.
-    pub fn sheet(k: u32) -> Made
+    pub fn sheet(k: u32) -> Result<Params, Refusal>
         ensures value { result ≡ made_sheet k }
         ensures number { made_number result ≡ sheet_number k }
         ensures place { made_place result ≡ 0 }
         ensures params { made_params result ≡ done_or (sheet_number k) (sheet k) no_params }
     {
         if 6 <= k {
-            return Made::Refused(Refusal {
-                number: 1,
-                place: 0,
-            });
+            return Err(Refusal::Parameters);
         }
         let s = SHEETS[k as usize];
-        Made::Set(Params {
+        Ok(Params {
             n: s[0],
             q: s[1],
             l: s[2],

@@ -1,14 +1,13 @@
 -- Document 01, *Refusal numbers*, for the calls on keys and ciphertexts: for each call what it is lent, its rows in the table's order, the answer, what each
 -- buffer that it writes holds at exit, and the promise of these, which the contract of its function cites. Of a buffer that a call only writes, a result or
 -- scratch, the rows take the length alone: it may arrive with anything in it.
-use Rattle.std.specs.Prelude.{◌≡◌, Bool, not, ◌||◌, List, [], ◌∷◌, ℕ, ◌*◌, ◌-◌, leb, eqb, ℤ, pos, nat_abs, length, replicate}
+use Rattle.std.specs.Prelude.{◌≡◌, Bool, not, ◌||◌, List, [], ◌∷◌, ℕ, ◌*◌, ◌-◌, leb, eqb, ℤ, pos, nat_abs, length, replicate, Result, Ok, Err}
 use Rattle.whole.specs.Lists.{every, cut}
 use Rattle.refusal.specs.declared.Refusal.{Refusal}
+use Rattle.refusal.specs.Answer.{Answer, refusal_number, refusal_place}
 use Rattle.refusal.specs.declared.Params.{Params}
 use Rattle.refusal.specs.First.{Row, row, first_of, place_of, answer_of, done_or}
 use Rattle.refusal.specs.Parameters.{in_range, sheet}
-use Rattle.scheme.specs.declared.Bounded.{Bounded}
-use Rattle.scheme.specs.declared.Decrypted.{Decrypted}
 use Rattle.scheme.specs.Arithmetic.{is_residue, is_key, encrypt, decrypt, XOR, XOR_bound, NOT, NOT_bound, switching_key, AND, AND_bound, fits}
 
 -- ---- the tests
@@ -43,6 +42,18 @@ over_budget q B = not (fits q B)
 
 -- ---- the answers: number and place of the first row that applies, and on a refusal 0 in the other number
 
+-- of encryption, XOR, NOT and AND: beside them the bound of the ciphertext that was written
+pub record Bounded : Type 0 where
+  pub number : ℕ
+  pub place : ℕ
+  pub bound : ℕ
+
+-- of decryption: beside them the bit
+pub record Decrypted : Type 0 where
+  pub number : ℕ
+  pub place : ℕ
+  pub bit : ℕ
+
 abbrev pub bounded : List Row → ℕ → Bounded
 bounded rows B = record { number = first_of rows; place = place_of rows; bound = done_or (first_of rows) B 0 }
 
@@ -55,6 +66,15 @@ states B = record { number = 0; place = 0; bound = B }
 
 abbrev pub decrypts_to : ℕ → Decrypted
 decrypts_to b = record { number = 0; place = 0; bit = b }
+
+-- the answer in the paper's form, of a call that answers a bound or a bit, or why it refuses
+abbrev pub bounded_of : Result ℕ Refusal → Bounded
+bounded_of (Ok B) = states B
+bounded_of (Err r) = record { number = refusal_number r; place = refusal_place r; bound = 0 }
+
+abbrev pub decrypted_of : Result ℕ Refusal → Decrypted
+decrypted_of (Ok b) = decrypts_to b
+decrypted_of (Err r) = record { number = refusal_number r; place = refusal_place r; bit = 0 }
 
 -- ---- key check: the parameters and the key
 
@@ -72,10 +92,10 @@ key_check_rows a =
     ∷ row 4 (bad_key a.p.l a.key)
     ∷ []
 
-unfoldable pub key_check_answer : KeyCheckLoans → Refusal
+unfoldable pub key_check_answer : KeyCheckLoans → Answer
 key_check_answer a = answer_of (key_check_rows a)
 
-pub record KeyCheckPromise (a : KeyCheckLoans) (r : Refusal) : Type 0 where
+pub record KeyCheckPromise (a : KeyCheckLoans) (r : Answer) : Type 0 where
   pub answer : r ≡ key_check_answer a
 
 -- ---- switching key maker: the key, the masks, the errors, and the buffer for the switching key
@@ -103,13 +123,13 @@ make_key_rows a =
     ∷ row 7 (exceeds a.p.f a.errors)
     ∷ []
 
-unfoldable pub make_key_answer : MakeKeyLoans → Refusal
+unfoldable pub make_key_answer : MakeKeyLoans → Answer
 make_key_answer a = answer_of (make_key_rows a)
 
 unfoldable pub make_key_result : MakeKeyLoans → List ℤ
 make_key_result a = done_or (first_of (make_key_rows a)) (switching_key a.p.n a.p.q a.key a.masks a.errors) a.result
 
-pub record MakeKeyPromise (a : MakeKeyLoans) (r : Refusal) (result : List ℤ) : Type 0 where
+pub record MakeKeyPromise (a : MakeKeyLoans) (r : Answer) (result : List ℤ) : Type 0 where
   pub answer : r ≡ make_key_answer a
   pub result_left : result ≡ make_key_result a
 
@@ -118,13 +138,13 @@ pub record MakeKeyPromise (a : MakeKeyLoans) (r : Refusal) (result : List ℤ) :
 abbrev pub bench_loans : List ℤ → List ℤ → List ℤ → MakeKeyLoans
 bench_loans s masks f = make_key_loans (sheet 1) s masks f (replicate 64 (pos 0))
 
-unfoldable pub bench_check_answer : List ℤ → List ℤ → List ℤ → Refusal
+unfoldable pub bench_check_answer : List ℤ → List ℤ → List ℤ → Answer
 bench_check_answer s masks f = make_key_answer (bench_loans s masks f)
 
 unfoldable pub bench_key : List ℤ → List ℤ → List ℤ → List (List ℤ)
 bench_key s masks f = cut 16 4 (make_key_result (bench_loans s masks f))
 
-pub record BenchCheckPromise (s masks f : List ℤ) (r : Refusal) : Type 0 where
+pub record BenchCheckPromise (s masks f : List ℤ) (r : Answer) : Type 0 where
   pub answer : r ≡ bench_check_answer s masks f
 
 pub record BenchKeyPromise (s masks f : List ℤ) (r : List (List ℤ)) : Type 0 where

@@ -9,21 +9,19 @@ use Rattle.whole.specs.Round.{round}
 use Rattle.whole.specs.Centred.{centred, rest}
 use Rattle.whole.specs.Lists.{every, tabulate, grid, cut}
 use Rattle.whole.specs.Inner.{inner, sizes, column}
-use Rattle.refusal.specs.declared.Refusal.{Refusal}
+use Rattle.refusal.specs.Answer.{Answer}
 use Rattle.refusal.specs.declared.Params.{Params}
 use Rattle.refusal.specs.First.{some_true, first_true, first_of, place_of, done_or}
 use Rattle.refusal.specs.Parameters.{params, in_range, sheet, sheets, sheet_table}
-use Rattle.scheme.specs.declared.Bounded.{Bounded}
-use Rattle.scheme.specs.declared.Decrypted.{Decrypted}
+use Rattle.scheme.specs.Calls.{Bounded, Decrypted, bad_params, differs, bad_key, bad_bit, outside, exceeds, over_budget, key_check_loans, key_check_rows, key_check_answer, make_key_loans, make_key_rows, make_key_answer, make_key_result, bench_check_answer, bench_key, encrypt_loans, encrypt_rows, encrypt_answer, encrypt_result, decrypt_loans, decrypt_rows, decrypt_answer, xor_loans, xor_rows, xor_answer, xor_result, not_loans, not_rows, not_answer, not_result, and_loans, and_rows, and_answer, and_result, and_scratch}
 use Rattle.scheme.specs.Arithmetic.{is_residue, is_key, encrypt, decrypt, XOR, XOR_bound, NOT, NOT_bound, tensor_entry, tensor, key_rows, mask_column, row_zero_entry, switching_key, switch_entry, switch, AND, AND_bound, fits}
-use Rattle.scheme.specs.Calls.{bad_params, differs, bad_key, bad_bit, outside, exceeds, over_budget, key_check_loans, key_check_rows, key_check_answer, make_key_loans, make_key_rows, make_key_answer, make_key_result, bench_check_answer, bench_key, encrypt_loans, encrypt_rows, encrypt_answer, encrypt_result, decrypt_loans, decrypt_rows, decrypt_answer, xor_loans, xor_rows, xor_answer, xor_result, not_loans, not_rows, not_answer, not_result, and_loans, and_rows, and_answer, and_result, and_scratch}
 use Rattle.scheme.specs.Figures.{Figure, is, −, pair, four}
 
 abbrev three : ℕ → ℕ → ℕ → List ℤ
 three x y z = pos x ∷ pos y ∷ pos z ∷ []
 
 -- all that a call returns, in order: the number, the place, and the bound or the bit
-abbrev returned : Refusal → List ℤ
+abbrev returned : Answer → List ℤ
 returned r = pair (pos r.number) (pos r.place)
 
 abbrev bound : Bounded → List ℤ

@@ -5,7 +5,7 @@ use Rattle.std.proofs.Common.{sym, ap, ◌∙◌, arith, get_or-take}
 use mathlib.Core.List.{List, [], flatten}
 use Rattle.whole.specs.Lists.{each_get_or, get_or_each, cut, length_cut, get_or_cut, get_or_flatten}
 use Rattle.refusal.specs.declared.Params.{Params}
-use Rattle.refusal.specs.declared.Refusal.{Refusal}
+use Rattle.refusal.specs.Answer.{Answer}
 use Rattle.refusal.specs.First.{first_of, done_or_done}
 use Rattle.noise.specs.Sound.{key_fits, Sound}
 use Rattle.noise.proofs.Sound.{sound_decrypts}
@@ -75,12 +75,12 @@ module _ {l : EvaluateLoans} {s : List ℤ} {bits : List ℕ} (given : Premises 
 
 -- ---- the theorem
 
-answered : {a : EvaluateLoans} {r : Refusal} {wires : List ℤ} {Bs : List ℕ} {scratch : List ℤ} → EvaluatePromise a r wires Bs scratch → r.number ≡ 0
+answered : {a : EvaluateLoans} {r : Answer} {wires : List ℤ} {Bs : List ℕ} {scratch : List ℤ} → EvaluatePromise a r wires Bs scratch → r.number ≡ 0
     → first_of (evaluate_rows a) ≡ 0
 unfolding evaluate_answer
-answered promise none = sym (ap (λ (x : Refusal). x.number) promise.answer) ∙ none
+answered promise none = sym (ap (λ (x : Answer). x.number) promise.answer) ∙ none
 
-all_vouched : {a : EvaluateLoans} {s : List ℤ} {bits : List ℕ} {r : Refusal} {wires : List ℤ} {Bs : List ℕ} {scratch : List ℤ}
+all_vouched : {a : EvaluateLoans} {s : List ℤ} {bits : List ℕ} {r : Answer} {wires : List ℤ} {Bs : List ℕ} {scratch : List ℤ}
     → Premises a s bits → EvaluatePromise a r wires Bs scratch → r.number ≡ 0 → AllVouched a.plan s bits wires Bs
 unfolding evaluate_wires evaluate_bounds
 all_vouched {a = l} {s} given promise none j inside =

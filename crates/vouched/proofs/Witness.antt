@@ -9,7 +9,7 @@ use Rattle.whole.specs.Centred.{centred, rest}
 use Rattle.whole.specs.Lists.{every, every_each, tabulate, grid, cut}
 use Rattle.whole.specs.Inner.{inner, sizes, column}
 use Rattle.refusal.specs.declared.Params.{Params}
-use Rattle.refusal.specs.declared.Refusal.{Refusal}
+use Rattle.refusal.specs.Answer.{Answer}
 use Rattle.refusal.specs.First.{refused, first_of, place_of, done_or, done_or_done, some_true, first_true}
 use Rattle.refusal.specs.Parameters.{params, in_range, sheet, sheets, sheet_table}
 use Rattle.scheme.specs.Arithmetic.{is_residue, is_key, encrypt, noise, XOR, XOR_bound, NOT, NOT_bound, tensor_entry, tensor, key_rows, mask_column, row_zero_entry, switching_key, switch_entry, switch, AND, AND_bound, fits}
@@ -183,7 +183,7 @@ XOR01 = gate 0 0 1
 abbrev AND01 : Gate
 AND01 = gate 1 0 1
 
-abbrev planned : List Gate → Refusal
+abbrev planned : List Gate → Answer
 planned gs = plan_answer (plan_loans (sheet 0) 2 (as_records gs) (1 ∷ 1 ∷ 7 ∷ 7 ∷ []))
 
 -- the last gate alone is over; of two that are the first is named; a wrong gate is named before one that is over

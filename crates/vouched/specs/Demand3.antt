@@ -4,12 +4,11 @@
 use Rattle.std.specs.Prelude.{◌≡◌, List, ℕ, ◌+◌, ◌*◌, ◌≤◌, ◌<◌, ℤ, length, get_or, take, drop}
 use Rattle.whole.specs.Lists.{Each}
 use Rattle.refusal.specs.declared.Params.{Params}
-use Rattle.refusal.specs.declared.Refusal.{Refusal}
+use Rattle.refusal.specs.Answer.{Answer}
 use Rattle.refusal.specs.First.{Clear}
 use Rattle.refusal.specs.Exact.{before}
-use Rattle.scheme.specs.declared.Decrypted.{Decrypted}
+use Rattle.scheme.specs.Calls.{Decrypted, key_check_loans, key_check_answer, decrypt_loans, DecryptPromise, decrypts_to}
 use Rattle.scheme.specs.Arithmetic.{noise}
-use Rattle.scheme.specs.Calls.{key_check_loans, key_check_answer, decrypt_loans, DecryptPromise, decrypts_to}
 use Rattle.noise.specs.Built.{BuiltFor}
 use Rattle.circuit.specs.Circuits.{bits_of}
 use Rattle.circuit.specs.Plan.{PlanLoans, plan_rows, PlanPromise}
@@ -48,15 +47,15 @@ AllVouched a s bits wires Bs =
 
 pub record Demand3 : Type 0 where
   -- where the premises hold and evaluation answers 0, every wire is vouched for
-  pub vouches : {a : EvaluateLoans} {s : List ℤ} {bits : List ℕ} {r : Refusal} {wires : List ℤ} {Bs : List ℕ} {scratch : List ℤ}
+  pub vouches : {a : EvaluateLoans} {s : List ℤ} {bits : List ℕ} {r : Answer} {wires : List ℤ} {Bs : List ℕ} {scratch : List ℤ}
       → Premises a s bits → EvaluatePromise a r wires Bs scratch → r.number ≡ 0 → AllVouched a.plan s bits wires Bs
   -- a call that meets no earlier refusal is refused for budget exactly when some gate's bound by the formula reaches q/4, and the first such gate is named:
   -- evaluation ..
-  pub evaluation_exact : {a : EvaluateLoans} {r : Refusal} {wires : List ℤ} {Bs : List ℕ} {scratch : List ℤ}
+  pub evaluation_exact : {a : EvaluateLoans} {r : Answer} {wires : List ℤ} {Bs : List ℕ} {scratch : List ℤ}
       → EvaluatePromise a r wires Bs scratch → Clear (before 10 (evaluate_rows a)) → BudgetExactFor a.plan r
   -- .. and planning
-  pub planning_exact : {a : PlanLoans} {r : Refusal} {Bs : List ℕ} → PlanPromise a r Bs → Clear (before 10 (plan_rows a)) → BudgetExactFor a r
+  pub planning_exact : {a : PlanLoans} {r : Answer} {Bs : List ℕ} → PlanPromise a r Bs → Clear (before 10 (plan_rows a)) → BudgetExactFor a r
   -- for a wrong gate likewise
-  pub evaluation_wrong : {a : EvaluateLoans} {r : Refusal} {wires : List ℤ} {Bs : List ℕ} {scratch : List ℤ}
+  pub evaluation_wrong : {a : EvaluateLoans} {r : Answer} {wires : List ℤ} {Bs : List ℕ} {scratch : List ℤ}
       → EvaluatePromise a r wires Bs scratch → Clear (before 9 (evaluate_rows a)) → WrongExactFor a.plan r
-  pub planning_wrong : {a : PlanLoans} {r : Refusal} {Bs : List ℕ} → PlanPromise a r Bs → Clear (before 9 (plan_rows a)) → WrongExactFor a r
+  pub planning_wrong : {a : PlanLoans} {r : Answer} {Bs : List ℕ} → PlanPromise a r Bs → Clear (before 9 (plan_rows a)) → WrongExactFor a r

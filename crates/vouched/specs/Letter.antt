@@ -3,10 +3,8 @@
 -- of the four calls alone; its proof is `key_to_letter` of the file Lettered.
 use Rattle.std.specs.Prelude.{◌≡◌, List, ℕ, ◌+◌, ◌<◌, ℤ, length, get_or}
 use Rattle.refusal.specs.declared.Params.{Params}
-use Rattle.refusal.specs.declared.Refusal.{Refusal}
-use Rattle.scheme.specs.declared.Bounded.{Bounded}
-use Rattle.scheme.specs.declared.Decrypted.{Decrypted}
-use Rattle.scheme.specs.Calls.{make_key_loans, MakeKeyPromise, encrypt_loans, EncryptPromise, decrypt_loans, DecryptPromise, decrypts_to}
+use Rattle.refusal.specs.Answer.{Answer}
+use Rattle.scheme.specs.Calls.{Bounded, Decrypted, make_key_loans, MakeKeyPromise, encrypt_loans, EncryptPromise, decrypt_loans, DecryptPromise, decrypts_to}
 use Rattle.circuit.specs.Circuits.{Circuit, bits_of}
 use Rattle.circuit.specs.Plan.{plan_loans}
 use Rattle.circuit.specs.Evaluate.{evaluate_loans, EvaluatePromise}
@@ -17,7 +15,7 @@ pub record KeyMade (p : Params) (s W : List ℤ) : Type 0 where
   pub masks : List ℤ
   pub errors : List ℤ
   pub found : List ℤ
-  pub answer : Refusal
+  pub answer : Answer
   pub promise : MakeKeyPromise (make_key_loans p s masks errors found) answer W
   pub done : answer.number ≡ 0
 
@@ -34,7 +32,7 @@ pub record InputEncrypted (p : Params) (s : List ℤ) (b : ℕ) (c : List ℤ) (
 -- evaluation was lent a circuit, wires and bounds, the switching key W and some scratch, answered 0 and left the wires `out`
 pub record CircuitEvaluated (p : Params) (inputs : ℕ) (circuit : Circuit) (wires : List ℤ) (Bs : List ℕ) (W out : List ℤ) : Type 0 where
   pub scratch : List ℤ
-  pub answer : Refusal
+  pub answer : Answer
   pub bounds : List ℕ
   pub cleared : List ℤ
   pub promise : EvaluatePromise (evaluate_loans (plan_loans p inputs circuit Bs) wires W scratch) answer out bounds cleared
