@@ -14,13 +14,6 @@ use refusal::{Params, row};
 // The length of the head.
 pub const HEAD: usize = 23;
 
-// A file whose head is right: none of the head's refusals applies to it.
-#[derive(Clone, Copy)]
-pub struct Head<'a> {
-    pub file: &'a [u8],
-    ghost right: { first_of (head_rows file.now) ≡ 0 },
-}
-
 // Whether the file begins with the mark GAT and version 1.
 pub fn is_known(file: &[u8]) -> bool
     ensures { result ≡ is_known file.now }

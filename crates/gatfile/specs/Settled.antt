@@ -1,6 +1,6 @@
--- Planning a file whose head is right: its gates are lent as three lists and its inputs at bound E, and what planning then answers and leaves is what
--- 9, 10 and the bounds of the file are.
-use Rattle.std.specs.Prelude.{◌≡◌, refl, ◌≢◌, ℕ, zero, suc, ◌+◌, ◌≤◌, ◌<◌, length, get_or, take}
+-- Planning a file whose head is right: it lends its gates, and its inputs at bound E, and what planning then answers and leaves is what 9, 10 and the
+-- bounds of the file are.
+use Rattle.std.specs.Prelude.{◌≡◌, refl, ◌≢◌, ℕ, zero, suc, ◌+◌, ◌*◌, ◌≤◌, ◌<◌, length, get_or, take}
 use Rattle.std.proofs.Math.Path.{sym, ap, ap₂}
 use Rattle.std.proofs.Common.{◌∙◌, arith, length-drop, take_at, length-take-le}
 use Rattle.std.proofs.Math.Bool.{true, false, not}
@@ -8,7 +8,6 @@ use mathlib.Core.List.{List, ◌∷◌, ◌++◌}
 use Rattle.std.proofs.Math.ListN.{drop, replicate, length-append}
 use Rattle.std.proofs.lemmas.List.{get_or-replicate}
 use Rattle.std.proofs.Math.Seq.{take-append_seam}
-use Rattle.whole.specs.Tests.{or_neither}
 use Rattle.whole.specs.Lists.{tabulate, length_tabulate, get_or_tabulate, every, get_or_every}
 use Rattle.refusal.specs.declared.Params.{Params}
 use Rattle.refusal.specs.declared.Refusal.{Refusal}
@@ -16,10 +15,10 @@ use Rattle.refusal.specs.First.{Row, refused, first_of, answer_of, Clear, answer
 use Rattle.scheme.specs.Arithmetic.{fits}
 use Rattle.scheme.specs.Passed.{lengths_same, below_fits}
 use Rattle.circuit.specs.declared.Gate.{Gate}
-use Rattle.circuit.specs.Circuits.{bad_counts, records, uneven_lists, as_lists}
+use Rattle.circuit.specs.Circuits.{Circuit, gate, bad_counts, records, as_records}
 use Rattle.circuit.specs.Plan.{PlanLoans, plan_loans, wire_count, circuit_rows, plan_front, plan_rows, plan_answer, plan_bounds, PlanPromise, plan_alike}
 use Rattle.gatfile.specs.declared.settle.FileBounds.{FileBounds}
-use Rattle.circuitfile.specs.File.{file_params, file_inputs, file_gate_count, file_gate, file_gates, file_input_bounds, file_bounds, file_gate_rows, check_rows}
+use Rattle.circuitfile.specs.File.{field, file_params, file_inputs, file_gate_count, file_gate, file_gates, file_input_bounds, file_bounds, file_gate_rows, check_rows}
 use Rattle.circuitfile.specs.Order.{HeadRight, gate_answer, check_refusal}
 use Rattle.circuitfile.specs.Wires.{length_inputs, length_bounds}
 
@@ -41,6 +40,10 @@ unfolding records tabulate
 records_tabulate zero f = refl
 records_tabulate (suc n) f = ap (λ (gs : List Gate). f zero ∷ gs) (records_tabulate n (λ i. f (suc i)))
 
+-- the circuit that the file lends
+abbrev pub file_circuit : List ℕ → Circuit
+file_circuit file = as_records (file_gates file)
+
 -- what planning leaves in a table: the bounds of all wires where 9 and 10 let the file pass, and otherwise those of the inputs before what was found
 unfoldable pub settled_bounds : List ℕ → List ℕ → List ℕ
 settled_bounds file table = done_or (first_of (file_gate_rows file)) (file_bounds file) (file_input_bounds file ++ drop (file_inputs file) table)
@@ -50,13 +53,19 @@ module _ (file : List ℕ) where
   unfolding file_column file_gates
   records_file = records_tabulate (file_gate_count file) (file_gate file)
 
-  pub length_column : (part : Gate → ℕ) → length (file_column file part) ≡ file_gate_count file
-  unfolding file_column
-  length_column part = length_tabulate (file_gate_count file) (λ g. part (file_gate file g))
+  -- as many as the head says
+  pub length_gates : length (file_gates file) ≡ file_gate_count file
+  unfolding file_gates
+  length_gates = length_tabulate (file_gate_count file) (file_gate file)
 
-  pub get_or_column : (part : Gate → ℕ) (g : ℕ) → g < file_gate_count file → get_or (file_column file part) g 0 ≡ part (file_gate file g)
-  unfolding file_column
-  get_or_column part g h = get_or_tabulate (file_gate_count file) (λ g. part (file_gate file g)) g 0 h
+  -- gate g, and its kind
+  pub gate_lent : (g : ℕ) → g < length (file_gates file) → get_or (file_gates file) g (gate 0 0 0) ≡ file_gate file g
+  unfolding file_gates
+  gate_lent g h = get_or_tabulate (file_gate_count file) (file_gate file) g _ (omega (arith, h, length_gates))
+
+  pub kind_lent : (g : ℕ) {found : Gate} → found ≡ get_or (file_gates file) g (gate 0 0 0) → g < length (file_gates file) → found.kind ≡ field file (23 + 5 * g) 1
+  unfolding file_gate
+  kind_lent g e h = ap (λ (g : Gate). g.kind) (e ∙ gate_lent g h)
 
   -- each input's bound fits
   inputs_fit : HeadRight file → every (fits (file_params file).q) (file_input_bounds file) ≡ true
@@ -69,24 +78,20 @@ module _ (file : List ℕ) where
 
   module _ (r : HeadRight file) (Bs : List ℕ) (front : take (file_inputs file) Bs ≡ file_input_bounds file) (room : length Bs ≡ file_inputs file + file_gate_count file) where
     abbrev loans : PlanLoans
-    loans = plan_loans (file_params file) (file_inputs file) (as_lists (file_kinds file) (file_lefts file) (file_rights file)) Bs
-
-    even : uneven_lists (file_kinds file) (file_lefts file) (file_rights file) ≡ false
-    unfolding uneven_lists
-    even = or_neither (lengths_same _ _ (length_column _ ∙ sym (length_column _))) (lengths_same _ _ (length_column _ ∙ sym (length_column _)))
+    loans = plan_loans (file_params file) (file_inputs file) (file_circuit file) Bs
 
     -- the rows of planning up to 8 do not apply
     clear : Clear (plan_front loans)
     unfolding plan_front
     clear =
-        let counts : bad_counts (file_inputs file) (length (file_kinds file)) ≡ false = rw length_column r.counts in
-        let lengths = or_neither even (lengths_same (length Bs) (wire_count loans) (room ∙ rw length_column)) in
+        let counts : bad_counts (file_inputs file) (length (file_gates file)) ≡ false = rw length_gates r.counts in
+        let lengths = lengths_same (length Bs) (wire_count loans) (room ∙ rw length_gates) in
         let fit : every (fits (file_params file).q) (take (file_inputs file) Bs) ≡ true = rw front (inputs_fit r) in
         ((r.ranges, tt), ((counts, tt), ((lengths, tt), ((ap not fit, tt), tt))))
 
     rows_file : circuit_rows loans ≡ file_gate_rows file
     unfolding file_gate_rows
-    rows_file = rw (records_file, front)
+    rows_file = rw front
 
     -- and so its answer is that of the gates
     pub settled_answer : plan_answer loans ≡ gate_answer file
@@ -95,11 +100,10 @@ module _ (file : List ℕ) where
 
     pub settled_bounds_lem : plan_bounds loans ≡ done_or (first_of (file_gate_rows file)) (file_bounds file) Bs
     unfolding plan_bounds plan_rows file_bounds
-    settled_bounds_lem = rw (first_rest (plan_front loans) (circuit_rows loans) clear, rows_file, records_file, front)
+    settled_bounds_lem = rw (first_rest (plan_front loans) (circuit_rows loans) clear, rows_file, front)
 
--- the same of what is lent to planning: the fields that were read, the lists that were filled, and a table `found` whose first entries were filled with E
-module _ (file : List ℕ) (r : HeadRight file) (found : List ℕ) {p : Params} {inputs : ℕ} {ks ls rs Es : List ℕ} (a : p ≡ file_params file) (b : inputs ≡ file_inputs file)
-    (k : ks ≡ file_kinds file) (l : ls ≡ file_lefts file) (m : rs ≡ file_rights file)
+-- the same of what is lent to planning: the fields that were read, and a table `found` whose first entries were filled with E
+module _ (file : List ℕ) (r : HeadRight file) (found : List ℕ) {p : Params} {inputs : ℕ} {Es : List ℕ} (a : p ≡ file_params file) (b : inputs ≡ file_inputs file)
     (e : Es ≡ replicate (length (take inputs found)) p.e) (room : length found ≡ file_inputs file + file_gate_count file) where
   filled : Es ≡ file_input_bounds file
   unfolding file_input_bounds
@@ -111,11 +115,10 @@ module _ (file : List ℕ) (r : HeadRight file) (found : List ℕ) {p : Params} 
   long : length (Es ++ drop inputs found) ≡ file_inputs file + file_gate_count file
   long = length-append Es (drop inputs found) ∙ omega (arith, ap length filled, length_inputs file, length-drop inputs found)
 
-  lent : plan_loans p inputs (as_lists ks ls rs) (Es ++ drop inputs found)
-      ≡ plan_loans (file_params file) (file_inputs file) (as_lists (file_kinds file) (file_lefts file) (file_rights file)) (Es ++ drop inputs found)
-  lent = rw (a, b, k, l, m)
+  lent : plan_loans p inputs (file_circuit file) (Es ++ drop inputs found) ≡ plan_loans (file_params file) (file_inputs file) (file_circuit file) (Es ++ drop inputs found)
+  lent = rw (a, b)
 
-  pub lent_planned : {a : Refusal} {out : List ℕ} → PlanPromise (plan_loans p inputs (as_lists ks ls rs) (Es ++ drop inputs found)) a out
+  pub lent_planned : {a : Refusal} {out : List ℕ} → PlanPromise (plan_loans p inputs (file_circuit file) (Es ++ drop inputs found)) a out
       → (a ≡ gate_answer file) × (out ≡ settled_bounds file found)
   unfolding settled_bounds
   lent_planned w =

@@ -4,6 +4,7 @@ ghost use mathlib.Core.List.{flat_map};
 ghost use Rattle.circuitfile.specs.File.{four_bytes, plan_file_buffer, CheckPromise, PlanFilePromise};
 ghost use Rattle.circuitfile.specs.Order.{plan_refusal};
 
+use crate::lent::CircuitFile;
 use crate::settle::{WIRES, bounds, settle};
 use filehead::{head_number, wire_count};
 use refusal::Refusal;
@@ -43,7 +44,7 @@ fn planned(file: &[u8], bounds: &mut [u8]) -> Refusal
         };
     }
     let mut table = [0u32; WIRES];
-    let settled = settle(file, &mut table[0..wires]);
+    let settled = settle(CircuitFile { file }, &mut table[0..wires]);
     if settled.number != 0 {
         return settled;
     }

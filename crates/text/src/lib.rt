@@ -13,28 +13,28 @@ use crate::line::{put_pair, put_wire};
 use crate::page::Page;
 pub use crate::page::ROOM;
 use circuitfile::Printed;
-use filehead::{Head, params, wire_count};
-use gatfile::bounds;
+use filehead::{params, wire_count};
+use gatfile::{CircuitFile, bounds};
 
 // The lines of all wires.
-fn put_wires(page: &mut Page, head: Head<'_>, bounds: &[u32])
-    requires { (page.old ≡ []) × (bounds.now ≡ file_bounds head.file.now) }
-    ensures lines { page.new ≡ wire_lines head.entry.file.now }
+fn put_wires(page: &mut Page, circuit: CircuitFile<'_>, bounds: &[u32])
+    requires { (page.old ≡ []) × (bounds.now ≡ file_bounds circuit.file.now) }
+    ensures lines { page.new ≡ wire_lines circuit.entry.file.now }
     ensures lines_length { length page.new ≤ 102400 }
 {
     for (wire, bound) in bounds.iter().enumerate() {
-        put_wire(page, head, wire, *bound);
+        put_wire(page, circuit, wire, *bound);
     }
 }
 
 // The text of a file that is not refused: the lines of all wires, then the output's bound and the largest bound that fits.
-fn put_bounds(page: &mut Page, head: Head<'_>, bounds: &[u32])
-    requires { (page.old ≡ []) × (bounds.now ≡ file_bounds head.file.now) }
-    ensures { page.new ≡ wire_lines head.entry.file.now ++ ok_line head.entry.file.now }
+fn put_bounds(page: &mut Page, circuit: CircuitFile<'_>, bounds: &[u32])
+    requires { (page.old ≡ []) × (bounds.now ≡ file_bounds circuit.file.now) }
+    ensures { page.new ≡ wire_lines circuit.entry.file.now ++ ok_line circuit.entry.file.now }
 {
-    put_wires(page, head, bounds);
+    put_wires(page, circuit, bounds);
     let output = bounds[bounds.len() - 1];
-    let largest = (params(head.file).q - 1) / 4;
+    let largest = (params(circuit.file).q - 1) / 4;
     put_pair(page, b"OK ", output as u64, largest as u64);
 }
 
@@ -49,7 +49,7 @@ fn put_text(page: &mut Page, file: &[u8])
         return;
     }
     let table = r.bounds;
-    put_bounds(page, Head { file }, &table[..wire_count(file)]);
+    put_bounds(page, CircuitFile { file }, &table[..wire_count(file)]);
 }
 
 // Writes the text at the front of the buffer and answers its length. A buffer that is shorter than the text is refused with 3, and nothing is

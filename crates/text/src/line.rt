@@ -5,19 +5,20 @@ ghost use Rattle.circuitfile.specs.Text.{wire_line, kind_word};
 ghost use Rattle.circuitfile.specs.Lines.{pair_line};
 
 use crate::page::Page;
-use filehead::field::one;
-use filehead::{HEAD, Head, inputs};
+use checks::lent::Gates;
+use filehead::inputs;
+use gatfile::CircuitFile;
 
 // IN for an input, and XOR, AND or NOT for a gate; and a space.
-fn kind(head: Head<'_>, wire: usize) -> &'static [u8]
-    requires { wire < file_inputs head.file.now + file_gate_count head.file.now }
-    ensures { result.now ≡ kind_word head.entry.file.now wire ++ (32 ∷ []) }
+fn kind(circuit: CircuitFile<'_>, wire: usize) -> &'static [u8]
+    requires { wire < file_inputs circuit.file.now + file_gate_count circuit.file.now }
+    ensures { result.now ≡ kind_word circuit.entry.file.now wire ++ (32 ∷ []) }
 {
-    let from = inputs(head.file) as usize;
+    let from = inputs(circuit.file) as usize;
     if wire < from {
         return b"IN ";
     }
-    match one(head.file, HEAD + 5 * (wire - from)) {
+    match circuit.gate(wire - from).kind {
         0 => b"XOR ",
         1 => b"AND ",
         _ => b"NOT ",
@@ -25,13 +26,13 @@ fn kind(head: Head<'_>, wire: usize) -> &'static [u8]
 }
 
 // The line of a wire: wire, kind, bound. It has at most 20 bytes.
-pub fn put_wire(page: &mut Page, head: Head<'_>, wire: usize, bound: u32)
-    requires { (wire < file_inputs head.file.now + file_gate_count head.file.now) × (length page.old + 20 ≤ 102432) }
-    ensures line { page.new ≡ page.old ++ wire_line wire (kind_word head.entry.file.now wire) bound }
+pub fn put_wire(page: &mut Page, circuit: CircuitFile<'_>, wire: usize, bound: u32)
+    requires { (wire < file_inputs circuit.file.now + file_gate_count circuit.file.now) × (length page.old + 20 ≤ 102432) }
+    ensures line { page.new ≡ page.old ++ wire_line wire (kind_word circuit.entry.file.now wire) bound }
     ensures line_length { length page.new ≤ length page.old + 20 }
 {
     page.put_field(wire as u64, b' ');
-    page.put(kind(head, wire));
+    page.put(kind(circuit, wire));
     page.put_field(bound as u64, b'\n');
 }
 

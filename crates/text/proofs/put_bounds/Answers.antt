@@ -7,13 +7,13 @@ use Rattle.circuitfile.specs.Lines.{ok_line_lem}
 use Rattle.text.proofs.put_bounds.Goals as goal
 
 pub overflow_sub-output : goal.overflow_sub-output
-overflow_sub-output c = omega (arith, ap length c.requires.1 ∙ length_bounds _, (head_right _ c.args.head.right).gates_low)
+overflow_sub-output c = omega (arith, ap length c.requires.1 ∙ length_bounds _, (head_right _ c.args.circuit.right).gates_low)
 
 pub overflow_sub-largest : goal.overflow_sub-largest
-overflow_sub-largest c = rw c.params.ensures (omega (arith, (head_right _ c.args.head.right).range.q_low))
+overflow_sub-largest c = rw c.params.ensures (omega (arith, (head_right _ c.args.circuit.right).range.q_low))
 
 pub bounds-bounds-bounds : goal.bounds-bounds-bounds
-bounds-bounds-bounds c = omega (arith, ap length c.requires.1 ∙ length_bounds _, (head_right _ c.args.head.right).gates_low)
+bounds-bounds-bounds c = omega (arith, ap length c.requires.1 ∙ length_bounds _, (head_right _ c.args.circuit.right).gates_low)
 
 pub returns : goal.returns
 unfolding word_ok

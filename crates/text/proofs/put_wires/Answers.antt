@@ -18,23 +18,23 @@ loop-wire-init c = (c.requires.0, rw c.requires.0 (omega arith))
 
 pub put_wire-requires : goal.put_wire-requires
 put_wire-requires c =
-    let n = many c.args.head.file.now c.requires.1 in
-    (omega (arith, n), omega (arith, n, (head_right _ c.args.head.right).wires_high, c.loop-wire.invariant.1))
+    let n = many c.args.circuit.file.now c.requires.1 in
+    (omega (arith, n), omega (arith, n, (head_right _ c.args.circuit.right).wires_high, c.loop-wire.invariant.1))
 
 pub loop-wire-preserved : goal.loop-wire-preserved
 loop-wire-preserved c =
-    let here = line_at c.args.head.file.now c.loop-wire.wire c.requires.1 c.loop-wire-test.true in
-    let more = parts_more (line_of c.args.head.file.now) (file_wires c.args.head.file.now) c.loop-wire.wire 0 here.0 in (
+    let here = line_at c.args.circuit.file.now c.loop-wire.wire c.requires.1 c.loop-wire-test.true in
+    let more = parts_more (line_of c.args.circuit.file.now) (file_wires c.args.circuit.file.now) c.loop-wire.wire 0 here.0 in (
       c.put_wire.ensures.line ∙ ap₂ ◌++◌ c.loop-wire.invariant.0 here.1 ∙ sym (rw add-one more),
       omega (arith, c.put_wire.ensures.line_length, c.loop-wire.invariant.1),
     )
 
 pub returns-clause-lines : goal.returns-clause-lines
 returns-clause-lines c =
-    let n = many c.args.head.file.now c.requires.1 in
-    let wires = length_tabulate (file_inputs c.args.head.file.now + file_gate_count c.args.head.file.now) (λ wire. wire) in
-    c.loop-wire.invariant.0 ∙ ap (flat_map (line_of c.args.head.file.now)) (take_all _ _ (omega (arith, n, wires))) ∙ wire_lines_lem _
+    let n = many c.args.circuit.file.now c.requires.1 in
+    let wires = length_tabulate (file_inputs c.args.circuit.file.now + file_gate_count c.args.circuit.file.now) (λ wire. wire) in
+    c.loop-wire.invariant.0 ∙ ap (flat_map (line_of c.args.circuit.file.now)) (take_all _ _ (omega (arith, n, wires))) ∙ wire_lines_lem _
 
 pub returns-clause-lines_length : goal.returns-clause-lines_length
 returns-clause-lines_length c =
-    omega (arith, c.loop-wire.invariant.1, many c.args.head.file.now c.requires.1, (head_right _ c.args.head.right).wires_high)
+    omega (arith, c.loop-wire.invariant.1, many c.args.circuit.file.now c.requires.1, (head_right _ c.args.circuit.right).wires_high)

@@ -5,4 +5,4 @@ use Rattle.circuitfile.specs.Lines.{line_of, file_wires}
 use Rattle.text.proofs.put_wires.Given as goal
 
 abbrev pub invariant-loop-wire : goal.invariant-loop-wire
-invariant-loop-wire l = (l.page ≡ flat_map (line_of l.head.file.now) (take l.wire (file_wires l.head.file.now))) × (length l.page ≤ 20 * l.wire)
+invariant-loop-wire l = (l.page ≡ flat_map (line_of l.circuit.file.now) (take l.wire (file_wires l.circuit.file.now))) × (length l.page ≤ 20 * l.wire)

@@ -25,6 +25,9 @@ returns-then-bounds-wires c =
     let e = planned_short _ c.args.bounds.now r (λ e. c.if-bounds-wires.true (e ∙ ap (λ n. 4 * n) (sym c.wire_count-wires.ensures.0))) in
     record { value = e.0; bounds_after = e.1 }
 
+pub invariant_of-settle : goal.invariant_of-settle
+invariant_of-settle c = record { right = sym c.head_number-number.ensures ∙ c.if-number-ne0.false }
+
 pub slice_bounds-table-end : goal.slice_bounds-table-end
 slice_bounds-table-end c =
     let r = past c.head_number-number.ensures c.if-number-ne0.false in

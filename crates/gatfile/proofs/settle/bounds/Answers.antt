@@ -16,6 +16,9 @@ pub returns-then-number-ne0 : goal.returns-then-number-ne0
 unfolding bounds_answer
 returns-then-number-ne0 c = bounds_refused _ _ (check_headed _ c.head_number-number.ensures c.if-number-ne0.true) c.if-number-ne0.true
 
+pub invariant_of-settle : goal.invariant_of-settle
+invariant_of-settle c = record { right = sym c.head_number-number.ensures ∙ c.if-number-ne0.false }
+
 pub slice_bounds-table-end : goal.slice_bounds-table-end
 slice_bounds-table-end c =
     let r = past c.head_number-number.ensures c.if-number-ne0.false in

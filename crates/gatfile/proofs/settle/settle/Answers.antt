@@ -1,7 +1,10 @@
--- `settle::settle` lends room for the gates, of which there are at most as many.
-use Rattle.std.proofs.Common.{arith}
+-- `settle::settle` plans the file's circuit: it lends the file's gates and its inputs at bound E, for which planning answers and leaves what 9, 10 and the
+-- bounds of the file are (`lent_planned`).
 use Rattle.circuitfile.specs.Order.{head_right}
+use Rattle.gatfile.specs.Settled.{lent_planned}
 use Rattle.gatfile.proofs.settle.settle.Goals as goal
 
-pub slice_bounds-kinds-end : goal.slice_bounds-kinds-end
-slice_bounds-kinds-end c = omega (arith, c.gate_count-gates.ensures.0, (head_right _ c.requires.0).gates_high)
+pub returns : goal.returns
+returns c =
+    let e = lent_planned _ (head_right _ c.args.circuit.right) c.args.table.now c.params-p.ensures c.inputs-count.ensures.0 (c.fill.ensures.after (λ y e. e)) c.requires c.plan.ensures in
+    record { value = e.0; table_after = e.1 }

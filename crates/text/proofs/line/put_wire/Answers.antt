@@ -14,18 +14,18 @@ digits : (file : List ℕ) (wire : ℕ) → first_of (head_rows file) ≡ 0 → 
 digits file wire e h = wire_few wire (omega (arith, (head_right file e).wires_high))
 
 pub put_field-requires : goal.put_field-requires
-put_field-requires c = omega (arith, digits c.args.head.file.now c.args.wire c.args.head.right c.requires.0)
+put_field-requires c = omega (arith, digits c.args.circuit.file.now c.args.wire c.args.circuit.right c.requires.0)
 
 pub put-requires : goal.put-requires
 put-requires c =
-    let few = digits c.args.head.file.now c.args.wire c.args.head.right c.requires.0 in
-    rw (c.put_field.ensures, c.kind.ensures) (simp length-append (omega (arith, kind_few c.args.head.file.now c.args.wire)))
+    let few = digits c.args.circuit.file.now c.args.wire c.args.circuit.right c.requires.0 in
+    rw (c.put_field.ensures, c.kind.ensures) (simp length-append (omega (arith, kind_few c.args.circuit.file.now c.args.wire)))
 
 pub put_field-requires-2 : goal.put_field-requires-2
 put_field-requires-2 c =
-    let few = digits c.args.head.file.now c.args.wire c.args.head.right c.requires.0 in
+    let few = digits c.args.circuit.file.now c.args.wire c.args.circuit.right c.requires.0 in
     rw (c.put.ensures, c.put_field.ensures, c.kind.ensures)
-    (simp length-append (omega (arith, kind_few c.args.head.file.now c.args.wire, word_few c.args.bound (omega arith))))
+    (simp length-append (omega (arith, kind_few c.args.circuit.file.now c.args.wire, word_few c.args.bound (omega arith))))
 
 pub returns-clause-line : goal.returns-clause-line
 unfolding wire_line
@@ -33,6 +33,6 @@ returns-clause-line c = rw (c.put_field-2.ensures, c.put.ensures, c.put_field.en
 
 pub returns-clause-line_length : goal.returns-clause-line_length
 returns-clause-line_length c =
-    let few = digits c.args.head.file.now c.args.wire c.args.head.right c.requires.0 in
+    let few = digits c.args.circuit.file.now c.args.wire c.args.circuit.right c.requires.0 in
     rw (c.put_field-2.ensures, c.put.ensures, c.put_field.ensures, c.kind.ensures)
-    (simp length-append (omega (arith, kind_few c.args.head.file.now c.args.wire, word_few c.args.bound (omega arith))))
+    (simp length-append (omega (arith, kind_few c.args.circuit.file.now c.args.wire, word_few c.args.bound (omega arith))))

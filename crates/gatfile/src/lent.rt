@@ -1,0 +1,40 @@
+// A circuit file as it is lent to planning: its gates are read where they lie.
+ghost use Rattle.std.specs.Prelude.{◌≡◌, refl};
+ghost use Rattle.refusal.specs.First.{first_of};
+ghost use Rattle.circuit.specs.Circuits.{as_records};
+ghost use Rattle.circuitfile.specs.File.{file_gates, head_rows};
+
+use checks::lent::Gates;
+use circuit::Gate;
+use filehead::field::{one, two};
+use filehead::{HEAD, gate_count};
+
+// A file whose head is right: none of the head's refusals applies to it.
+#[derive(Clone, Copy)]
+pub struct CircuitFile<'a> {
+    pub file: &'a [u8],
+    ghost right: { first_of (head_rows file.now) ≡ 0 },
+}
+
+impl<'a> Gates for CircuitFile<'a> {
+    ghost lent = { λ c. as_records (file_gates c.file.now) };
+
+    ghost sized = { λ c e. refl };
+
+    fn count(&self) -> usize {
+        gate_count(self.file)
+    }
+
+    fn is_uneven(&self) -> bool {
+        false
+    }
+
+    fn gate(&self, g: usize) -> Gate {
+        let at = HEAD + 5 * g;
+        Gate {
+            kind: one(self.file, at),
+            left: two(self.file, at + 1),
+            right: two(self.file, at + 3),
+        }
+    }
+}
