@@ -6,6 +6,7 @@
 -- exact; Unread, that the gates' stretches and the scratch "may arrive with anything in them". Run stands in proofs/, and so do, under the same names, the theorems of the
 -- others that rest on a definition which a must-fail edit turns.
 pub mod Circuits
+pub mod Kind
 pub mod Plan
 pub mod Evaluate
 pub mod Example

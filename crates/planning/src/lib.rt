@@ -13,6 +13,7 @@ ghost use Rattle.planning.specs.Ready.{SettleReady};
 use bound::and_bound;
 use checks::lent::Gates;
 use checks::{are_bad_counts, first_wrong, is_some_over};
+use circuit::kind::Kind;
 use refusal::{Params, Refusal};
 
 // The bound of one gate's wire, before it is held to the budget.
@@ -20,10 +21,10 @@ fn gate_bound(p: Params, kind: u32, b1: u32, b2: u32) -> u64
     requires { AndBoundReady p b1 b2 }
     ensures { (result ≡ by_kind kind (XOR_bound b1 b2) (AND_bound p.n p.q p.l p.f b1 b2) (NOT_bound b1)) × (result ≤ 1099511627776) }
 {
-    match kind {
-        0 => b1 as u64 + b2 as u64,
-        1 => and_bound(p, b1, b2),
-        _ => b1 as u64,
+    match Kind::of(kind) {
+        Kind::Xor => b1 as u64 + b2 as u64,
+        Kind::And => and_bound(p, b1, b2),
+        Kind::Not => b1 as u64,
     }
 }
 

@@ -10,6 +10,7 @@ ghost use Rattle.working.specs.Ready.{EvaluateReady, WorkGateReady, MakeWireRead
 
 use checks::lent::Gates;
 use circuit::Gate;
+use circuit::kind::Kind;
 use gates::{and_into, not_into, xor_into};
 use refusal::Params;
 
@@ -26,10 +27,10 @@ fn make_wire(
     requires { MakeWireReady p c.now d.now key.now scratch.old out.old }
     ensures { out.new ≡ by_kind kind (XOR p.q c.now d.now) (AND p.n p.q key.now c.now d.now) (NOT p.q c.now) }
 {
-    match kind {
-        0 => xor_into(p.q, c, d, out),
-        1 => and_into(p.q, c, d, key, scratch, out),
-        _ => not_into(p.q, c, out),
+    match Kind::of(kind) {
+        Kind::Xor => xor_into(p.q, c, d, out),
+        Kind::And => and_into(p.q, c, d, key, scratch, out),
+        Kind::Not => not_into(p.q, c, out),
     }
 }
 

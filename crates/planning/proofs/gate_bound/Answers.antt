@@ -1,19 +1,15 @@
 -- `planning::gate_bound` is the bound of a gate by its kind: XOR's and NOT's by their laws (`XOR_bound_is`, `NOT_bound_is`), AND's by what `and_bound`
 -- ensures. Two bounds that fit are below q, so that their sum is small.
-use Rattle.std.proofs.Common.{sym, ◌∙◌, arith}
+use Rattle.std.proofs.Common.{sym, arith}
 use Rattle.scheme.specs.Wording.{XOR_bound_is, NOT_bound_is}
-use Rattle.circuit.specs.Circuits.{by_kind}
-use Rattle.circuit.specs.Records.{kind_neither}
+use Rattle.circuit.specs.Kind.{by_kind_of}
 use Rattle.planning.proofs.gate_bound.Goals as goal
 
-pub returns-in-0 : goal.returns-in-0
-unfolding by_kind
-returns-in-0 c = (simp (c.in-0.is, XOR_bound_is), omega (arith, c.requires.range.q_high))
+pub returns-in-Xor : goal.returns-in-Xor
+returns-in-Xor c = (rw (by_kind_of, ← c.of.ensures, c.in-Xor.is) (sym (XOR_bound_is _ _)), omega (arith, c.requires.range.q_high))
 
-pub returns-in-1 : goal.returns-in-1
-unfolding by_kind
-returns-in-1 c = (simp c.in-1.is c.and_bound.ensures.0, c.and_bound.ensures.1)
+pub returns-in-And : goal.returns-in-And
+returns-in-And c = (rw (by_kind_of, ← c.of.ensures, c.in-And.is) c.and_bound.ensures.0, c.and_bound.ensures.1)
 
-pub returns-in_default : goal.returns-in_default
-returns-in_default c =
-    (sym (NOT_bound_is c.args.b1) ∙ sym (kind_neither c.args.kind _ _ _ (λ e. omega arith) (λ e. omega arith)), omega (arith, c.requires.range.q_high))
+pub returns-in-Not : goal.returns-in-Not
+returns-in-Not c = (rw (by_kind_of, ← c.of.ensures, c.in-Not.is) (sym (NOT_bound_is _)), omega (arith, c.requires.range.q_high))

@@ -1,16 +1,12 @@
 -- `working::make_wire` makes what the gate's kind says, each kind by what its function of the ciphertext crate ensures.
-use Rattle.std.proofs.Common.{sym, ◌∙◌, arith}
-use Rattle.circuit.specs.Circuits.{by_kind}
-use Rattle.circuit.specs.Records.{kind_neither}
+use Rattle.circuit.specs.Kind.{by_kind_of}
 use Rattle.working.proofs.make_wire.Goals as goal
 
-pub returns-in-0 : goal.returns-in-0
-unfolding by_kind
-returns-in-0 c = simp c.in-0.is c.xor_into.ensures
+pub returns-in-Xor : goal.returns-in-Xor
+returns-in-Xor c = rw (by_kind_of, ← c.of.ensures, c.in-Xor.is) c.xor_into.ensures
 
-pub returns-in-1 : goal.returns-in-1
-unfolding by_kind
-returns-in-1 c = simp c.in-1.is (rw c.requires.out_long at c.and_into.ensures.out_after)
+pub returns-in-And : goal.returns-in-And
+returns-in-And c = rw (by_kind_of, ← c.of.ensures, c.in-And.is) (rw c.requires.out_long at c.and_into.ensures.out_after)
 
-pub returns-in_default : goal.returns-in_default
-returns-in_default c = c.not_into.ensures ∙ sym (kind_neither c.args.kind _ _ _ (λ e. omega arith) (λ e. omega arith))
+pub returns-in-Not : goal.returns-in-Not
+returns-in-Not c = rw (by_kind_of, ← c.of.ensures, c.in-Not.is) c.not_into.ensures
