@@ -1,5 +1,5 @@
--- A run of gate records as the numeric core takes it: the gates that are listed, and their kinds, lefts and rights. A run of more gates than a
--- circuit may have is listed one gate beyond that, so that it is still seen to be too long.
+-- A run of gate records as far as its length and its gates count: the gates that are listed, and their kinds, lefts and rights. A run of more gates
+-- than a circuit may have is listed one gate beyond that, so that it is still seen to be too long.
 use Rattle.std.specs.Prelude.{◌≡◌, Bool, true, false, cond, List, [], ◌∷◌, ◌++◌, map, ℕ, suc, ◌≤◌, ◌<◌, ltb, length, get_or, set, take, drop, replicate}
 use Rattle.std.proofs.Math.Path.{refl, sym}
 use Rattle.std.proofs.Common.{ap, ◌∙◌, arith, take_at, length-take-le, ltb-true, ltb-false, lt-ltb, le-ltb}
