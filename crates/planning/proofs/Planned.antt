@@ -1,14 +1,16 @@
 -- What it tells that none of the rows in front of the gates' applies, and the four ends of planning: what each answers, and what it leaves in the bounds.
-use Rattle.std.proofs.Common.{◌≡◌, refl, sym, ap, ◌∙◌, ◌≢◌, Bool, false, List, ℕ, ◌≤◌, ◌<◌, arith, length, length-take-le}
+use Rattle.std.proofs.Common.{◌≡◌, sym, ap, ◌∙◌, ◌≢◌, Bool, false, List, ℕ, ◌≤◌, ◌<◌, arith, length, length-take-le, Result, Err}
 use Rattle.refusal.specs.declared.Refusal.{Refusal}
-use Rattle.refusal.specs.First.{refused, first_of, first_true, Clear, are_single, done_or_done, done_or_refused}
+use Rattle.refusal.specs.Answer.{Answer, answer_to}
+use Rattle.refusal.specs.First.{refused, first_of, answer_of, answer_front, first_true, Clear, done_or_done, done_or_refused}
+use Rattle.refusal.proofs.Given.{refused_by, refused_number}
 use Rattle.circuit.specs.declared.Gate.{Gate}
 use Rattle.circuit.specs.Circuits.{wrong_gates}
-use Rattle.circuit.specs.Plan.{PlanLoans, stated, plan_front, plan_rows, plan_answer, plan_bounds, PlanPromise}
+use Rattle.circuit.specs.Plan.{PlanLoans, stated, circuit_rows, plan_front, plan_rows, plan_answer, plan_bounds, PlanPromise}
 use Rattle.circuit.specs.Passed.{PlanPassed, plan_clear, plan_passed}
 use Rattle.circuit.specs.Records.{length_wrong_gates}
 use Rattle.circuit.proofs.Records.{length_bounds_of, length_over_gates}
-use Rattle.circuit.proofs.Answers.{answered_early, answered_wrong, answered_over, answered_done}
+use Rattle.circuit.proofs.Answers.{answered_wrong, answered_over, answered_done}
 use Rattle.planning.proofs.Settling.{bounds_all, over_all}
 
 pub record PlanReady (a : PlanLoans) : Type 0 where
@@ -29,14 +31,18 @@ module _ (a : PlanLoans) where
   -- ---- the ends
 
   -- a refusal leaves the bounds as found
-  planned_refused : {r : Refusal} → r.number ≢ 0 → r ≡ plan_answer a → PlanPromise a r a.bounds
+  planned_refused : {r : Answer} → r.number ≢ 0 → r ≡ plan_answer a → PlanPromise a r a.bounds
   unfolding plan_answer plan_bounds
-  planned_refused h e = record { answer = e; bounds_left = sym (done_or_refused _ a.bounds (λ z. h (ap (λ (x : Refusal). x.number) e ∙ z))) }
+  planned_refused h e = record { answer = e; bounds_left = sym (done_or_refused _ a.bounds (λ z. h (ap (λ (x : Answer). x.number) e ∙ z))) }
 
-  -- one of the rows in front applies
-  pub planned_early : {n : ℕ} → n ≡ first_of (plan_front a) → n ≢ 0 → PlanPromise a (refused n 0) a.bounds
-  unfolding plan_answer plan_rows plan_front are_single
-  planned_early e h = planned_refused h (answered_early a.p a.inputs gates (stated a) (plan_front a) e h refl)
+  -- one of the rows in front applies, by which `check_plan` refused
+  pub planned_early : {x r : Result (Unit {0}) Refusal} {e : Refusal} → answer_to x ≡ answer_of (plan_front a) → x ≡ Err e → r ≡ Err e
+      → PlanPromise a (answer_to r) a.bounds
+  unfolding plan_answer plan_rows
+  planned_early {x} {r} {e} told h up =
+      let same : answer_to r ≡ answer_of (plan_front a) = ap answer_to (up ∙ sym h) ∙ told in
+      let refuses : first_of (plan_front a) ≢ 0 = refused_number (refused_by (plan_front a) told h) in
+      planned_refused (λ z. refuses (sym (ap (λ (x : Answer). x.number) same) ∙ z)) (same ∙ sym (answer_front (plan_front a) (circuit_rows a) refuses))
 
   module _ (r : PlanReady a) where
     -- the bounds of all wires are as many as the buffer holds
@@ -73,4 +79,4 @@ module _ (a : PlanLoans) where
       planned_done h w =
           let answer : refused 0 0 ≡ plan_answer a =
           answered_done a.p a.inputs gates (stated a) (plan_front a) r.clear all_right (omega (arith, h, length_over_gates a.p gates (stated a))) in
-          record { answer = answer; bounds_left = w ∙ sym (done_or_done _ a.bounds (sym (ap (λ (x : Refusal). x.number) answer))) }
+          record { answer = answer; bounds_left = w ∙ sym (done_or_done _ a.bounds (sym (ap (λ (x : Answer). x.number) answer))) }

@@ -2,7 +2,8 @@
 #![tactic(auto)]
 
 ghost use Rattle.std.specs.Prelude.{◌≡◌, ◌≤◌, take, IfNone};
-ghost use Rattle.refusal.specs.First.{first_of};
+ghost use Rattle.refusal.specs.Answer.{answer_to};
+ghost use Rattle.refusal.specs.First.{answer_of};
 ghost use Rattle.scheme.specs.Arithmetic.{XOR_bound, AND_bound, NOT_bound};
 ghost use Rattle.circuit.specs.Circuits.{by_kind, over_gates, bounds_of};
 ghost use Rattle.circuit.specs.Plan.{plan_loans, plan_front, PlanPromise};
@@ -14,7 +15,7 @@ use bound::and_bound;
 use checks::lent::Gates;
 use checks::{are_bad_counts, first_wrong, is_some_over};
 use circuit::kind::Kind;
-use refusal::{Params, Refusal};
+use refusal::{Params, Refusal, refuse_if};
 
 // The bound of one gate's wire, before it is held to the budget.
 fn gate_bound(p: Params, kind: u32, b1: u32, b2: u32) -> u64
@@ -48,50 +49,40 @@ fn settle<C: Gates>(p: Params, inputs: usize, circuit: &C, table: &mut [u32]) ->
     None
 }
 
-// The number for planning up to 8: 1, 2, 3, 8 or 0.
-fn plan_number<C: Gates>(p: Params, inputs: u32, circuit: &C, bounds: &[u32]) -> u32
-    ensures { result ≡ first_of (plan_front (plan_loans p inputs (C.lent circuit.now) bounds.now)) }
+// The refusals of planning before those of the gates: 1, 2, 3, 8.
+fn check_plan<C: Gates>(p: Params, inputs: u32, circuit: &C, bounds: &[u32]) -> Result<(), Refusal>
+    ensures { answer_to result ≡ answer_of (plan_front (plan_loans p inputs (C.lent circuit.now) bounds.now)) }
 {
-    if !p.in_range() {
-        return 1;
-    }
+    refuse_if(!p.in_range(), Refusal::Parameters)?;
     let gates = circuit.count();
-    if are_bad_counts(inputs, gates) {
-        return 2;
-    }
+    refuse_if(are_bad_counts(inputs, gates), Refusal::Counts)?;
     let count = inputs as usize;
-    if circuit.is_uneven() | (bounds.len() != count + gates) {
-        return 3;
-    }
-    refusal::row(8, is_some_over(p.q, &bounds[..count]), 0)
+    refuse_if(
+        circuit.is_uneven() | (bounds.len() != count + gates),
+        Refusal::Length,
+    )?;
+    refuse_if(is_some_over(p.q, &bounds[..count]), Refusal::Bound)
 }
 
 // Planning: the bounds of the gates behind those of the inputs. Refusals 1, 2, 3, 8, 9, 10; the place is the first offending gate for 9 and 10.
-pub fn plan<C: Gates>(p: Params, inputs: u32, circuit: &C, bounds: &mut [u32]) -> Refusal
-    ensures { PlanPromise (plan_loans p inputs (C.lent circuit.now) bounds.old) result bounds.new }
+pub fn plan<C: Gates>(
+    p: Params,
+    inputs: u32,
+    circuit: &C,
+    bounds: &mut [u32],
+) -> Result<(), Refusal>
+    ensures { PlanPromise (plan_loans p inputs (C.lent circuit.now) bounds.old) (answer_to result) bounds.new }
 {
-    let number = plan_number(p, inputs, circuit, bounds);
-    if number != 0 {
-        return Refusal { number, place: 0 };
-    }
+    check_plan(p, inputs, circuit, bounds)?;
     if let Some(wrong) = first_wrong(inputs, circuit) {
-        return Refusal {
-            number: 9,
-            place: wrong as u64,
-        };
+        return Err(Refusal::Gate(wrong as u64));
     }
     let mut table = [0u32; 5120];
     let total = bounds.len();
     table[..total].copy_from_slice(bounds);
     if let Some(over) = settle(p, inputs as usize, circuit, &mut table[..total]) {
-        return Refusal {
-            number: 10,
-            place: over as u64,
-        };
+        return Err(Refusal::Budget(over as u64));
     }
     bounds.copy_from_slice(&table[..total]);
-    Refusal {
-        number: 0,
-        place: 0,
-    }
+    Ok(())
 }

@@ -1,7 +1,10 @@
--- `planning::plan` answers and writes as planning is defined: each return is one of the four ends of `Planned`. What `plan_number` answers 0 tells
+-- `planning::plan` answers and writes as planning is defined: each return is one of the four ends of `Planned`. What `check_plan` tells where it does not refuse
 -- (`PlanReady`) is what the functions ask for, and the buffer gets the copy of the bounds that `settle` filled.
-use Rattle.std.proofs.Common.{◌≡◌, sym, ap, ◌∙◌, false, List, ◌++◌, ℕ, ◌≤◌, ◌<◌, length, take, take_at, length-take-le, arith}
-use Rattle.refusal.specs.First.{refused, first_of, first_true, none_first}
+use Rattle.std.proofs.Common.{◌≡◌, sym, ap, ◌∙◌, false, List, ◌++◌, ℕ, ◌≤◌, ◌<◌, length, take, take_at, length-take-le, arith, Result, Ok}
+use Rattle.refusal.specs.declared.Refusal.{Refusal}
+use Rattle.refusal.specs.Answer.{answer_to}
+use Rattle.refusal.specs.First.{refused, answer_of, first_true, none_first}
+use Rattle.refusal.proofs.Given.{passed_up, done_by}
 use Rattle.circuit.specs.Circuits.{wrong_gates, over_gates, bounds_of}
 use Rattle.circuit.specs.Plan.{PlanLoans, plan_front, PlanPromise}
 use Rattle.circuit.specs.Answers.{inputs_within, gates_within}
@@ -11,10 +14,10 @@ use Rattle.planning.proofs.Settling.{bounds_all}
 use Rattle.planning.proofs.Planned.{PlanReady, plan_ready, bounds_kept, planned_early, planned_wrong, planned_over, planned_done}
 use Rattle.planning.proofs.plan.Goals as goal
 
--- past the rows in front, where `plan_number` answered 0
-module _ (a : PlanLoans) (sized : a.circuit.uneven ≡ false → length a.circuit.gates ≡ a.circuit.count) {n : ℕ} (answered : n ≡ first_of (plan_front a)) (none : n ≡ 0) where
+-- past the rows in front, where `check_plan` did not refuse
+module _ (a : PlanLoans) (sized : a.circuit.uneven ≡ false → length a.circuit.gates ≡ a.circuit.count) {x : Result (Unit {0}) Refusal} {u : Unit {0}} (told : answer_to x ≡ answer_of (plan_front a)) (went : x ≡ Ok u) where
   ready : PlanReady a
-  ready = plan_ready a sized (sym answered ∙ none)
+  ready = plan_ready a sized (done_by (plan_front a) told went)
 
   circuit : CircuitReady a.inputs a.circuit
   circuit =
@@ -55,34 +58,34 @@ module _ (a : PlanLoans) (sized : a.circuit.uneven ≡ false → length a.circui
         let long : length filled ≡ length a.bounds = ap length all ∙ bounds_kept a ready in
         planned_done a ready right (rw lent at fit) (written ∙ take_at filled others (length a.bounds) long ∙ all)
 
-pub returns-then-number-ne0 : goal.returns-then-number-ne0
-returns-then-number-ne0 g c = planned_early _ c.plan_number-number.ensures c.if-number-ne0.true
+pub returns-in_err-check_plan : goal.returns-in_err-check_plan
+returns-in_err-check_plan g c = planned_early _ c.check_plan.ensures c.in_err-check_plan.was (passed_up _ c.from_residual.ensures.1)
 
 pub first_wrong-requires : goal.first_wrong-requires
-first_wrong-requires g c = circuit _ (g.met.C.Gates.sized _) c.plan_number-number.ensures c.if-number-ne0.false
+first_wrong-requires g c = circuit _ (g.met.C.Gates.sized _) c.check_plan.ensures c.in_ok-check_plan.was
 
 pub returns-in-Some : goal.returns-in-Some
-returns-in-Some g c = planned_wrong _ (ready _ (g.met.C.Gates.sized _) c.plan_number-number.ensures c.if-number-ne0.false) c.in-Some.ensures
+returns-in-Some g c = planned_wrong _ (ready _ (g.met.C.Gates.sized _) c.check_plan.ensures c.in_ok-check_plan.was) c.in-Some.ensures
 
 pub slice_bounds-table-end : goal.slice_bounds-table-end
-slice_bounds-table-end g c = short _ (g.met.C.Gates.sized _) c.plan_number-number.ensures c.if-number-ne0.false
+slice_bounds-table-end g c = short _ (g.met.C.Gates.sized _) c.check_plan.ensures c.in_ok-check_plan.was
 
 pub slice_bounds-copy_from_slice-end : goal.slice_bounds-copy_from_slice-end
-slice_bounds-copy_from_slice-end g c = sym (length-take-le _ _ (short _ (g.met.C.Gates.sized _) c.plan_number-number.ensures c.if-number-ne0.false))
+slice_bounds-copy_from_slice-end g c = sym (length-take-le _ _ (short _ (g.met.C.Gates.sized _) c.check_plan.ensures c.in_ok-check_plan.was))
 
 pub copy_from_slice-requires : goal.copy_from_slice-requires
-copy_from_slice-requires g c = length-take-le _ _ (short _ (g.met.C.Gates.sized _) c.plan_number-number.ensures c.if-number-ne0.false)
+copy_from_slice-requires g c = length-take-le _ _ (short _ (g.met.C.Gates.sized _) c.check_plan.ensures c.in_ok-check_plan.was)
 
 pub settle-requires : goal.settle-requires
 settle-requires g c =
-    to_settle _ (g.met.C.Gates.sized _) c.plan_number-number.ensures c.if-number-ne0.false c.in_default.ensures c.copy_from_slice.ensures.after _
+    to_settle _ (g.met.C.Gates.sized _) c.check_plan.ensures c.in_ok-check_plan.was c.in_default.ensures c.copy_from_slice.ensures.after _
 
 pub returns-in-Some-settle : goal.returns-in-Some-settle
 returns-in-Some-settle g c =
-    refused_over _ (g.met.C.Gates.sized _) c.plan_number-number.ensures c.if-number-ne0.false c.in_default.ensures c.copy_from_slice.ensures.after _
+    refused_over _ (g.met.C.Gates.sized _) c.check_plan.ensures c.in_ok-check_plan.was c.in_default.ensures c.copy_from_slice.ensures.after _
     c.in-Some-settle.ensures.over
 
 pub returns : goal.returns
 returns g c =
-    done _ (g.met.C.Gates.sized _) c.plan_number-number.ensures c.if-number-ne0.false c.in_default.ensures c.copy_from_slice.ensures.after _ _
+    done _ (g.met.C.Gates.sized _) c.check_plan.ensures c.in_ok-check_plan.was c.in_default.ensures c.copy_from_slice.ensures.after _ _
     c.in_default-settle.ensures.over c.in_default-settle.ensures.table_after c.copy_from_slice-2.ensures.after
