@@ -4,12 +4,13 @@
 pub mod field;
 
 ghost use Rattle.std.specs.Prelude.{◌≡◌, ◌+◌, ◌<◌};
-ghost use Rattle.refusal.specs.First.{first_of};
+ghost use Rattle.refusal.specs.Answer.{answer_to};
+ghost use Rattle.refusal.specs.First.{answer_of};
 ghost use Rattle.circuitfile.specs.File.{file_params, file_inputs, file_gate_count, is_known, head_rows};
 
 use checks::are_bad_counts;
 use field::{four, two};
-use refusal::{Params, row};
+use refusal::{Params, Refusal, refuse_if};
 
 // The length of the head.
 pub const HEAD: usize = 23;
@@ -58,14 +59,14 @@ pub fn wire_count(file: &[u8]) -> usize
     inputs(file) as usize + gate_count(file)
 }
 
-// The number of the head: 12 under 23 bytes, then 11, 1, 2, and 12 where the length is not that of the gates; or 0.
-pub fn head_number(file: &[u8]) -> u32
-    ensures { result ≡ first_of (head_rows file.now) }
+// The refusals of the head: 12 under 23 bytes, then 11, 1, 2, and 12 where the length is not that of the gates.
+pub fn check_head(file: &[u8]) -> Result<(), Refusal>
+    ensures { answer_to result ≡ answer_of (head_rows file.now) }
 {
+    refuse_if(file.len() < HEAD, Refusal::FileLength)?;
+    refuse_if(!is_known(file), Refusal::Mark)?;
+    refuse_if(!params(file).in_range(), Refusal::Parameters)?;
     let gates = gate_count(file);
-    let after = row(12, file.len() != HEAD + 5 * gates, 0);
-    let counts = row(2, are_bad_counts(inputs(file), gates), after);
-    let ranges = row(1, !params(file).in_range(), counts);
-    let known = row(11, !is_known(file), ranges);
-    row(12, file.len() < HEAD, known)
+    refuse_if(are_bad_counts(inputs(file), gates), Refusal::Counts)?;
+    refuse_if(file.len() != HEAD + 5 * gates, Refusal::FileLength)
 }
