@@ -3,17 +3,15 @@
 #![tactic(auto)]
 
 ghost use Rattle.std.specs.Prelude.{◌≡◌, length};
-ghost use Rattle.refusal.specs.First.{first_of};
 ghost use Rattle.scheme.specs.Arithmetic.{XOR, NOT, tensor, AND};
-ghost use Rattle.scheme.specs.Calls.{xor_loans, xor_rows, XorPromise, not_loans, not_rows, NotPromise, and_loans, and_rows, AndPromise};
+ghost use Rattle.scheme.specs.Calls.{bounded_of, xor_loans, xor_answer, XorPromise, not_loans, not_answer, NotPromise, and_loans, and_answer, AndPromise};
 ghost use Rattle.gates.specs.Ready.{XorIntoReady, NotIntoReady, AndIntoReady};
 
 use bound::and_bound;
 use keys::tests::{is_outside, is_outside_big, is_over, length_differs};
 use modular::residue::Residue;
 use passes::buffer::{copy, zero};
-use refusal::Params;
-use scheme::Bounded;
+use refusal::{Params, Refusal, refuse_if};
 use switch::fill_switch;
 use tensor::fill_tensor;
 
@@ -47,81 +45,66 @@ pub fn and_into(q: u32, c: &[i64], d: &[i64], key: &[i64], scratch: &mut [i64], 
     fill_switch(q, scratch, key, out);
 }
 
-// The number for an XOR into `out`: 1, 3, 6, 8, 10 or 0.
-fn xor_number(p: Params, c: &[i64], b1: u32, d: &[i64], b2: u32, out: &[i64]) -> u32
-    ensures { result ≡ first_of (xor_rows (xor_loans p c.now b1 d.now b2 out.now)) }
+// The bound of an XOR into `out`, or why it is refused: 1, 3, 6, 8, 10.
+fn check_xor(p: Params, c: &[i64], b1: u32, d: &[i64], b2: u32, out: &[i64]) -> Result<u32, Refusal>
+    ensures { bounded_of result ≡ xor_answer (xor_loans p c.now b1 d.now b2 out.now) }
 {
-    if !p.in_range() {
-        return 1;
-    }
+    refuse_if(!p.in_range(), Refusal::Parameters)?;
     let n = p.n as usize;
-    if length_differs(c.len(), n) | length_differs(d.len(), n) | length_differs(out.len(), n) {
-        return 3;
-    }
+    let is_wrong = length_differs(c.len(), n)
+        | length_differs(d.len(), n)
+        | length_differs(out.len(), n);
+    refuse_if(is_wrong, Refusal::Length)?;
+    refuse_if(is_outside(p.q, c) | is_outside(p.q, d), Refusal::Entry)?;
     let x = b1 as u64;
     let y = b2 as u64;
-    let ten = refusal::row(10, is_over(p.q, x + y), 0);
-    let eight = refusal::row(8, is_over(p.q, x) | is_over(p.q, y), ten);
-    refusal::row(6, is_outside(p.q, c) | is_outside(p.q, d), eight)
+    refuse_if(is_over(p.q, x) | is_over(p.q, y), Refusal::Bound)?;
+    refuse_if(is_over(p.q, x + y), Refusal::Budget(0))?;
+    Ok(b1 + b2)
 }
 
 // XOR of two ciphertexts into `out`; answers the bound. Refusals 1, 3, 6, 8, 10.
-pub fn xor(p: Params, c: &[i64], b1: u32, d: &[i64], b2: u32, out: &mut [i64]) -> Bounded
-    ensures { XorPromise (xor_loans p c.now b1 d.now b2 out.old) result out.new }
+pub fn xor(
+    p: Params,
+    c: &[i64],
+    b1: u32,
+    d: &[i64],
+    b2: u32,
+    out: &mut [i64],
+) -> Result<u32, Refusal>
+    ensures { XorPromise (xor_loans p c.now b1 d.now b2 out.old) (bounded_of result) out.new }
 {
-    let number = xor_number(p, c, b1, d, b2, out);
-    if number != 0 {
-        return Bounded {
-            number,
-            place: 0,
-            bound: 0,
-        };
-    }
+    let bound = check_xor(p, c, b1, d, b2, out)?;
     xor_into(p.q, c, d, out);
-    Bounded {
-        number: 0,
-        place: 0,
-        bound: b1 + b2,
-    }
+    Ok(bound)
 }
 
-// The number for a NOT into `out`: 1, 3, 6, 8 or 0.
-fn not_number(p: Params, c: &[i64], bound: u32, out: &[i64]) -> u32
-    ensures { result ≡ first_of (not_rows (not_loans p c.now bound out.now)) }
+// The bound of a NOT into `out`, or why it is refused: 1, 3, 6, 8.
+fn check_not(p: Params, c: &[i64], bound: u32, out: &[i64]) -> Result<u32, Refusal>
+    ensures { bounded_of result ≡ not_answer (not_loans p c.now bound out.now) }
 {
-    if !p.in_range() {
-        return 1;
-    }
+    refuse_if(!p.in_range(), Refusal::Parameters)?;
     let n = p.n as usize;
-    if length_differs(c.len(), n) | length_differs(out.len(), n) {
-        return 3;
-    }
-    let eight = refusal::row(8, is_over(p.q, bound as u64), 0);
-    refusal::row(6, is_outside(p.q, c), eight)
+    refuse_if(
+        length_differs(c.len(), n) | length_differs(out.len(), n),
+        Refusal::Length,
+    )?;
+    refuse_if(is_outside(p.q, c), Refusal::Entry)?;
+    refuse_if(is_over(p.q, bound as u64), Refusal::Bound)?;
+    Ok(bound)
 }
 
 // NOT of a ciphertext into `out`; answers the bound. Refusals 1, 3, 6, 8.
-pub fn not(p: Params, c: &[i64], bound: u32, out: &mut [i64]) -> Bounded
-    ensures { NotPromise (not_loans p c.now bound out.old) result out.new }
+pub fn not(p: Params, c: &[i64], bound: u32, out: &mut [i64]) -> Result<u32, Refusal>
+    ensures { NotPromise (not_loans p c.now bound out.old) (bounded_of result) out.new }
 {
-    let number = not_number(p, c, bound, out);
-    if number != 0 {
-        return Bounded {
-            number,
-            place: 0,
-            bound: 0,
-        };
-    }
+    let bound = check_not(p, c, bound, out)?;
     not_into(p.q, c, out);
-    Bounded {
-        number: 0,
-        place: 0,
-        bound,
-    }
+    Ok(bound)
 }
 
-// The number for an AND into `out`, by `scratch`: 1, 3, 6, 8, 10 or 0. The bound is worked out last, since it asks that rows 6 and 8 do not apply.
-fn and_number(
+// The bound of an AND into `out`, by `scratch`, or why it is refused: 1, 3, 6, 8, 10. The bound is worked out last, since it asks that rows 6 and 8 do not apply.
+fn check_and(
     p: Params,
     c: &[i64],
     b1: u32,
@@ -130,32 +113,29 @@ fn and_number(
     key: &[i64],
     scratch: &[i64],
     out: &[i64],
-) -> u32
-    ensures { result ≡ first_of (and_rows (and_loans p c.now b1 d.now b2 key.now scratch.now out.now)) }
+) -> Result<u32, Refusal>
+    ensures { bounded_of result ≡ and_answer (and_loans p c.now b1 d.now b2 key.now scratch.now out.now) }
 {
-    if !p.in_range() {
-        return 1;
-    }
+    refuse_if(!p.in_range(), Refusal::Parameters)?;
     let n = p.n as usize;
     let square = n * n;
-    if length_differs(c.len(), n)
+    let is_wrong = length_differs(c.len(), n)
         | length_differs(d.len(), n)
         | length_differs(key.len(), n * square)
         | length_differs(scratch.len(), square)
-        | length_differs(out.len(), n)
-    {
-        return 3;
-    }
-    let outside = is_outside(p.q, c) | is_outside(p.q, d) | is_outside_big(p.q, key);
-    let earlier = refusal::row(
-        6,
-        outside,
-        refusal::row(8, is_over(p.q, b1 as u64) | is_over(p.q, b2 as u64), 0),
-    );
-    if earlier != 0 {
-        return earlier;
-    }
-    refusal::row(10, is_over(p.q, and_bound(p, b1, b2)), 0)
+        | length_differs(out.len(), n);
+    refuse_if(is_wrong, Refusal::Length)?;
+    refuse_if(
+        is_outside(p.q, c) | is_outside(p.q, d) | is_outside_big(p.q, key),
+        Refusal::Entry,
+    )?;
+    refuse_if(
+        is_over(p.q, b1 as u64) | is_over(p.q, b2 as u64),
+        Refusal::Bound,
+    )?;
+    let bound = and_bound(p, b1, b2);
+    refuse_if(is_over(p.q, bound), Refusal::Budget(0))?;
+    Ok(bound as u32)
 }
 
 // AND of two ciphertexts into `out`, by a switching key and n² of scratch, which is zeroed; answers the bound. Refusals 1, 3, 6, 8, 10.
@@ -168,22 +148,11 @@ pub fn and(
     key: &[i64],
     scratch: &mut [i64],
     out: &mut [i64],
-) -> Bounded
-    ensures { AndPromise (and_loans p c.now b1 d.now b2 key.now scratch.old out.old) result out.new scratch.new }
+) -> Result<u32, Refusal>
+    ensures { AndPromise (and_loans p c.now b1 d.now b2 key.now scratch.old out.old) (bounded_of result) out.new scratch.new }
 {
-    let number = and_number(p, c, b1, d, b2, key, scratch, out);
-    if number != 0 {
-        return Bounded {
-            number,
-            place: 0,
-            bound: 0,
-        };
-    }
+    let bound = check_and(p, c, b1, d, b2, key, scratch, out)?;
     and_into(p.q, c, d, key, scratch, out);
     zero(scratch);
-    Bounded {
-        number: 0,
-        place: 0,
-        bound: and_bound(p, b1, b2) as u32,
-    }
+    Ok(bound)
 }

@@ -1,15 +1,16 @@
 -- What the proofs of several calls share: what a call answers where it refuses and where it does not, and the sum whose residue is entry 0 of a ciphertext, and an entry of row 0 of a switching key.
-use Rattle.std.specs.Prelude.{◌≡◌, refl, Bool, false, ◌||◌, List, ℕ, ◌≤◌, ℤ, ◌+ℤ◌, ◌-ℤ◌, nat_abs, Result, Err}
-use Rattle.std.proofs.Common.{ap, ◌∙◌, arith, SFits}
+use Rattle.std.specs.Prelude.{◌≡◌, refl, Bool, false, ◌||◌, List, ℕ, ◌≤◌, ℤ, ◌+ℤ◌, ◌-ℤ◌, nat_abs, Result, Ok, Err}
+use Rattle.std.proofs.Common.{sym, ap, ◌∙◌, arith, SFits}
 use Rattle.std.specs.Int.{w64}
 use Rattle.whole.specs.Size.{size_add, size_sub}
 use Rattle.whole.specs.Machine.{fits64}
 use Rattle.refusal.specs.declared.Params.{Params}
 use Rattle.refusal.specs.Parameters.{InRange}
 use Rattle.refusal.specs.declared.Refusal.{Refusal}
-use Rattle.refusal.specs.First.{Row, first_of, place_of, done_or_done}
-use Rattle.refusal.proofs.Given.{Refused, refused_kept}
-use Rattle.scheme.specs.Calls.{differs, bounded, decrypted, bounded_of, decrypted_of, states, decrypts_to}
+use Rattle.refusal.specs.Answer.{Answer}
+use Rattle.refusal.specs.First.{Row, first_of, done_or_done}
+use Rattle.refusal.proofs.Given.{Gives, given, Refused, refused_by, refused_kept}
+use Rattle.scheme.specs.Calls.{Bounded, differs, bounded, decrypted, bounded_of, decrypted_of, states, decrypts_to}
 use Rattle.scheme.specs.Passed.{length_is}
 pub use Rattle.scheme.specs.Passed.{params_tested, answered_range}
 pub use Rattle.keys.specs.Moduli.{params_modulus}
@@ -24,22 +25,34 @@ short {p} {n} r d = omega (arith, r.n_high, length_is n p.n d)
 pub or_same : {a b c d : Bool} → a ≡ b → c ≡ d → (a || c) ≡ (b || d)
 or_same e f = rw (e, f)
 
--- ---- refused, and done: the answer r in the paper's form
+-- ---- refused, and done: what a function answers that comes to its refusal row by row, and beside it states a bound or a bit
 
-module _ {rows : List Row} where
-  pub bounded_refused : {r : Result ℕ Refusal} {e : Refusal} (B : ℕ) → Refused rows e → r ≡ Err e → bounded_of r ≡ bounded rows B
-  bounded_refused B f h = ap bounded_of h ∙ rw (f.number, f.place, ← refused_kept f B 0) refl
+module _ {rows : List Row} {r : Result ℕ Refusal} where
+  pub bounded_refused : {e : Refusal} (B : ℕ) → Gives rows r → r ≡ Err e → bounded_of r ≡ bounded rows B
+  bounded_refused B g h =
+      let f = refused_by rows (given rows g) h in
+      ap bounded_of h ∙ rw (f.number, f.place, ← refused_kept f B 0) refl
 
-  pub decrypted_refused : {r : Result ℕ Refusal} {e : Refusal} (b : ℕ) → Refused rows e → r ≡ Err e → decrypted_of r ≡ decrypted rows b
-  decrypted_refused b f h = ap decrypted_of h ∙ rw (f.number, f.place, ← refused_kept f b 0) refl
+  pub decrypted_refused : {e : Refusal} (b : ℕ) → Gives rows r → r ≡ Err e → decrypted_of r ≡ decrypted rows b
+  decrypted_refused b g h =
+      let f = refused_by rows (given rows g) h in
+      ap decrypted_of h ∙ rw (f.number, f.place, ← refused_kept f b 0) refl
 
--- of rows whose place is 0
-module _ (rows : List Row) (place : place_of rows ≡ 0) where
-  pub bounded_done : {x : ℕ} (B : ℕ) → first_of rows ≡ 0 → x ≡ B → states x ≡ bounded rows B
-  bounded_done B o e = rw (place, o, e, done_or_done B 0 refl) refl
+module _ {rows : List Row} {x : ℕ} where
+  pub bounded_done : {B : ℕ} → Gives rows (Ok x) → x ≡ B → states x ≡ bounded rows B
+  bounded_done {B} g e = let a = given rows g in rw (e, ← ap (λ (y : Answer). y.number) a, ← ap (λ (y : Answer). y.place) a) (ap states (sym (done_or_done B 0 refl)))
 
-  pub decrypted_done : {x : ℕ} (b : ℕ) → first_of rows ≡ 0 → x ≡ b → decrypts_to x ≡ decrypted rows b
-  decrypted_done b o e = rw (place, o, e, done_or_done b 0 refl) refl
+  pub decrypted_done : {b : ℕ} → Gives rows (Ok x) → x ≡ b → decrypts_to x ≡ decrypted rows b
+  decrypted_done {b} g e = let a = given rows g in rw (e, ← ap (λ (y : Answer). y.number) a, ← ap (λ (y : Answer). y.place) a) (ap decrypts_to (sym (done_or_done b 0 refl)))
+
+-- the caller of such a function f has its answer: and where it is a bound, no row applies
+pub bound_stated : (rows : List Row) (B : ℕ) {x : ℕ} {f : Result ℕ Refusal} → bounded_of f ≡ bounded rows B → f ≡ Ok x → first_of rows ≡ 0
+bound_stated rows B told h = sym (ap (λ (y : Bounded). y.number) (ap bounded_of (sym h) ∙ told))
+
+pub bound_refused : (rows : List Row) (B : ℕ) {e : Refusal} {f : Result ℕ Refusal} → bounded_of f ≡ bounded rows B → f ≡ Err e → Refused rows e
+bound_refused rows B told h =
+    let y = ap bounded_of (sym h) ∙ told in
+    record { number = ap (λ (y : Bounded). y.number) y; place = ap (λ (y : Bounded). y.place) y }
 
 -- ---- the sum m − x + e, of which each part is at most 2^60 in size: nothing on the way wraps
 

@@ -1,19 +1,19 @@
--- `gates::not` answers and writes as NOT is defined: where the number is not 0 nothing, and where it is 0 (`not_ready`) what `not_into` writes.
-use Rattle.std.proofs.Common.{refl, sym, ◌∙◌}
-use Rattle.scheme.specs.Arithmetic.{NOT_bound}
+-- `gates::not` answers and writes as NOT is defined: where its check refuses nothing, and otherwise (`not_ready`) what `not_into` writes.
+use Rattle.std.proofs.Common.{refl}
+use Rattle.refusal.proofs.Given.{passed_up}
 use Rattle.scheme.specs.Calls.{not_loans}
 use Rattle.gates.proofs.Ready.{not_ready}
-use Rattle.gates.proofs.Ends.{not_refused, not_done}
+use Rattle.gates.proofs.Ends.{not_passed, not_refused, not_done}
 use Rattle.gates.proofs.not.Goals as goal
 
-pub returns-then-number-ne0 : goal.returns-then-number-ne0
-returns-then-number-ne0 c =
-    not_refused (not_loans c.args.p c.args.c.now c.args.bound c.args.out.now) c.not_number-number.ensures c.if-number-ne0.true
+pub returns-in_err-bound : goal.returns-in_err-bound
+returns-in_err-bound c =
+    not_refused (not_loans c.args.p c.args.c.now c.args.bound c.args.out.now) c.check_not.ensures c.in_err-bound.was (passed_up _ c.from_residual.ensures.1)
 
 pub not_into-requires : goal.not_into-requires
-not_into-requires c = not_ready (not_loans c.args.p c.args.c.now c.args.bound c.args.out.now) (sym c.not_number-number.ensures ∙ c.if-number-ne0.false)
+not_into-requires c =
+    let lent = not_loans c.args.p c.args.c.now c.args.bound c.args.out.now in
+    not_ready lent (not_passed lent c.check_not.ensures c.in_ok-bound.was)
 
 pub returns : goal.returns
-unfolding NOT_bound
-returns c =
-    not_done (not_loans c.args.p c.args.c.now c.args.bound c.args.out.now) (sym c.not_number-number.ensures ∙ c.if-number-ne0.false) refl c.not_into.ensures
+returns c = not_done (not_loans c.args.p c.args.c.now c.args.bound c.args.out.now) c.check_not.ensures c.in_ok-bound.was refl c.not_into.ensures

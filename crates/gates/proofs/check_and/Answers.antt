@@ -1,0 +1,95 @@
+-- `gates::check_and` comes to the answer of AND row by row: each `refuse_if` asks the next row's test.
+use Rattle.std.proofs.Common.{refl, sym, ap, ◌∙◌, not, arith}
+use Rattle.std.proofs.Math.Nat.{mul-le-mul}
+use Rattle.whole.specs.Tests.{or_left, or_right}
+use Rattle.refusal.proofs.Given.{refuses, goes_on, no_rows, passed_up, was_false}
+use Rattle.scheme.specs.Calls.{bad_params, and_rows, and_answer}
+use Rattle.scheme.specs.Passed.{bound_fits}
+use Rattle.keys.specs.Chain.{params_modulus, answered_range, or_same, bounded_refused, bounded_done}
+use Rattle.gates.proofs.check_and.Goals as goal
+
+pub returns-in_err-refuse_if : goal.returns-in_err-refuse_if
+unfolding and_answer and_rows bad_params
+returns-in_err-refuse_if c =
+    bounded_refused _
+    (refuses refl c.refuse_if.ensures c.in_err-refuse_if.was (ap not c.in_range.ensures) c.from_residual.ensures.1)
+    (passed_up _ c.from_residual.ensures.1)
+
+pub returns-in_err-refuse_if-2 : goal.returns-in_err-refuse_if-2
+unfolding and_answer and_rows bad_params
+returns-in_err-refuse_if-2 c =
+    bounded_refused _
+    (goes_on c.refuse_if.ensures c.in_ok-refuse_if.was (ap not c.in_range.ensures)
+    (refuses refl c.refuse_if-2.ensures c.in_err-refuse_if-2.was (or_same (or_same (or_same (or_same c.length_differs.ensures c.length_differs-2.ensures) c.length_differs-3.ensures) c.length_differs-4.ensures) c.length_differs-5.ensures) c.from_residual-in_err-refuse_if-2.ensures.1))
+    (passed_up _ c.from_residual-in_err-refuse_if-2.ensures.1)
+
+pub returns-in_err-refuse_if-3 : goal.returns-in_err-refuse_if-3
+unfolding and_answer and_rows bad_params
+returns-in_err-refuse_if-3 c =
+    bounded_refused _
+    (goes_on c.refuse_if.ensures c.in_ok-refuse_if.was (ap not c.in_range.ensures)
+    (goes_on c.refuse_if-2.ensures c.in_ok-refuse_if-2.was (or_same (or_same (or_same (or_same c.length_differs.ensures c.length_differs-2.ensures) c.length_differs-3.ensures) c.length_differs-4.ensures) c.length_differs-5.ensures)
+    (refuses refl c.refuse_if-3.ensures c.in_err-refuse_if-3.was (or_same (or_same c.is_outside.ensures c.is_outside-2.ensures) c.is_outside_big.ensures) c.from_residual-in_err-refuse_if-3.ensures.1)))
+    (passed_up _ c.from_residual-in_err-refuse_if-3.ensures.1)
+
+pub returns-in_err-refuse_if-4 : goal.returns-in_err-refuse_if-4
+unfolding and_answer and_rows bad_params
+returns-in_err-refuse_if-4 c =
+    bounded_refused _
+    (goes_on c.refuse_if.ensures c.in_ok-refuse_if.was (ap not c.in_range.ensures)
+    (goes_on c.refuse_if-2.ensures c.in_ok-refuse_if-2.was (or_same (or_same (or_same (or_same c.length_differs.ensures c.length_differs-2.ensures) c.length_differs-3.ensures) c.length_differs-4.ensures) c.length_differs-5.ensures)
+    (goes_on c.refuse_if-3.ensures c.in_ok-refuse_if-3.was (or_same (or_same c.is_outside.ensures c.is_outside-2.ensures) c.is_outside_big.ensures)
+    (refuses refl c.refuse_if-4.ensures c.in_err-refuse_if-4.was (or_same c.is_over.ensures c.is_over-2.ensures) c.from_residual-in_err-refuse_if-4.ensures.1))))
+    (passed_up _ c.from_residual-in_err-refuse_if-4.ensures.1)
+
+pub returns-in_err-refuse_if-5 : goal.returns-in_err-refuse_if-5
+unfolding and_answer and_rows bad_params
+returns-in_err-refuse_if-5 c =
+    bounded_refused _
+    (goes_on c.refuse_if.ensures c.in_ok-refuse_if.was (ap not c.in_range.ensures)
+    (goes_on c.refuse_if-2.ensures c.in_ok-refuse_if-2.was (or_same (or_same (or_same (or_same c.length_differs.ensures c.length_differs-2.ensures) c.length_differs-3.ensures) c.length_differs-4.ensures) c.length_differs-5.ensures)
+    (goes_on c.refuse_if-3.ensures c.in_ok-refuse_if-3.was (or_same (or_same c.is_outside.ensures c.is_outside-2.ensures) c.is_outside_big.ensures)
+    (goes_on c.refuse_if-4.ensures c.in_ok-refuse_if-4.was (or_same c.is_over.ensures c.is_over-2.ensures)
+    (refuses refl c.refuse_if-5.ensures c.in_err-refuse_if-5.was (rw c.and_bound-bound.ensures.0 at c.is_over-3.ensures) c.from_residual-in_err-refuse_if-5.ensures.1)))))
+    (passed_up _ c.from_residual-in_err-refuse_if-5.ensures.1)
+
+pub returns : goal.returns
+unfolding and_answer and_rows bad_params
+returns c =
+    bounded_done
+    (goes_on c.refuse_if.ensures c.in_ok-refuse_if.was (ap not c.in_range.ensures)
+    (goes_on c.refuse_if-2.ensures c.in_ok-refuse_if-2.was (or_same (or_same (or_same (or_same c.length_differs.ensures c.length_differs-2.ensures) c.length_differs-3.ensures) c.length_differs-4.ensures) c.length_differs-5.ensures)
+    (goes_on c.refuse_if-3.ensures c.in_ok-refuse_if-3.was (or_same (or_same c.is_outside.ensures c.is_outside-2.ensures) c.is_outside_big.ensures)
+    (goes_on c.refuse_if-4.ensures c.in_ok-refuse_if-4.was (or_same c.is_over.ensures c.is_over-2.ensures)
+    (goes_on c.refuse_if-5.ensures c.in_ok-refuse_if-5.was (rw c.and_bound-bound.ensures.0 at c.is_over-3.ensures)
+    (no_rows _))))))
+    c.and_bound-bound.ensures.0
+
+pub is_outside-requires : goal.is_outside-requires
+is_outside-requires c = params_modulus (answered_range _ c.in_range.ensures (was_false c.refuse_if.ensures c.in_ok-refuse_if.was))
+
+pub is_outside-requires-2 : goal.is_outside-requires-2
+is_outside-requires-2 c = params_modulus (answered_range _ c.in_range.ensures (was_false c.refuse_if.ensures c.in_ok-refuse_if.was))
+
+pub is_outside_big-requires : goal.is_outside_big-requires
+is_outside_big-requires c = params_modulus (answered_range _ c.in_range.ensures (was_false c.refuse_if.ensures c.in_ok-refuse_if.was))
+
+pub overflow_mul-n : goal.overflow_mul-n
+overflow_mul-n c =
+    let r = answered_range _ c.in_range.ensures (was_false c.refuse_if.ensures c.in_ok-refuse_if.was) in
+    omega (arith, mul-le-mul r.n_high (mul-le-mul r.n_high r.n_high))
+
+pub and_bound-bound-requires : goal.and_bound-bound-requires
+and_bound-bound-requires c =
+    let none = sym (or_same c.is_over.ensures c.is_over-2.ensures) ∙ was_false c.refuse_if-4.ensures c.in_ok-refuse_if-4.was in
+    record {
+      range = answered_range _ c.in_range.ensures (was_false c.refuse_if.ensures c.in_ok-refuse_if.was);
+      left_fits = bound_fits _ _ (or_left _ _ none);
+      right_fits = bound_fits _ _ (or_right _ _ none);
+    }
+
+pub overflow_cast-result : goal.overflow_cast-result
+overflow_cast-result c =
+    let range = answered_range _ c.in_range.ensures (was_false c.refuse_if.ensures c.in_ok-refuse_if.was) in
+    let fits = bound_fits _ _ (sym c.is_over-3.ensures ∙ was_false c.refuse_if-5.ensures c.in_ok-refuse_if-5.was) in
+    omega (arith, fits, range.q_high)

@@ -1,0 +1,55 @@
+-- `gates::check_not` comes to the answer of NOT row by row: each `refuse_if` asks the next row's test.
+use Rattle.std.proofs.Common.{refl, ap, not}
+use Rattle.refusal.proofs.Given.{refuses, goes_on, no_rows, passed_up, was_false}
+use Rattle.scheme.specs.Arithmetic.{NOT_bound}
+use Rattle.scheme.specs.Calls.{bad_params, not_rows, not_answer}
+use Rattle.keys.specs.Chain.{params_modulus, answered_range, or_same, bounded_refused, bounded_done}
+use Rattle.gates.proofs.check_not.Goals as goal
+
+pub returns-in_err-refuse_if : goal.returns-in_err-refuse_if
+unfolding not_answer not_rows bad_params NOT_bound
+returns-in_err-refuse_if c =
+    bounded_refused _
+    (refuses refl c.refuse_if.ensures c.in_err-refuse_if.was (ap not c.in_range.ensures) c.from_residual.ensures.1)
+    (passed_up _ c.from_residual.ensures.1)
+
+pub returns-in_err-refuse_if-2 : goal.returns-in_err-refuse_if-2
+unfolding not_answer not_rows bad_params NOT_bound
+returns-in_err-refuse_if-2 c =
+    bounded_refused _
+    (goes_on c.refuse_if.ensures c.in_ok-refuse_if.was (ap not c.in_range.ensures)
+    (refuses refl c.refuse_if-2.ensures c.in_err-refuse_if-2.was (or_same c.length_differs.ensures c.length_differs-2.ensures) c.from_residual-in_err-refuse_if-2.ensures.1))
+    (passed_up _ c.from_residual-in_err-refuse_if-2.ensures.1)
+
+pub returns-in_err-refuse_if-3 : goal.returns-in_err-refuse_if-3
+unfolding not_answer not_rows bad_params NOT_bound
+returns-in_err-refuse_if-3 c =
+    bounded_refused _
+    (goes_on c.refuse_if.ensures c.in_ok-refuse_if.was (ap not c.in_range.ensures)
+    (goes_on c.refuse_if-2.ensures c.in_ok-refuse_if-2.was (or_same c.length_differs.ensures c.length_differs-2.ensures)
+    (refuses refl c.refuse_if-3.ensures c.in_err-refuse_if-3.was (c.is_outside.ensures) c.from_residual-in_err-refuse_if-3.ensures.1)))
+    (passed_up _ c.from_residual-in_err-refuse_if-3.ensures.1)
+
+pub returns-in_err-refuse_if-4 : goal.returns-in_err-refuse_if-4
+unfolding not_answer not_rows bad_params NOT_bound
+returns-in_err-refuse_if-4 c =
+    bounded_refused _
+    (goes_on c.refuse_if.ensures c.in_ok-refuse_if.was (ap not c.in_range.ensures)
+    (goes_on c.refuse_if-2.ensures c.in_ok-refuse_if-2.was (or_same c.length_differs.ensures c.length_differs-2.ensures)
+    (goes_on c.refuse_if-3.ensures c.in_ok-refuse_if-3.was (c.is_outside.ensures)
+    (refuses refl c.refuse_if-4.ensures c.in_err-refuse_if-4.was (c.is_over.ensures) c.from_residual-in_err-refuse_if-4.ensures.1))))
+    (passed_up _ c.from_residual-in_err-refuse_if-4.ensures.1)
+
+pub returns : goal.returns
+unfolding not_answer not_rows bad_params NOT_bound
+returns c =
+    bounded_done
+    (goes_on c.refuse_if.ensures c.in_ok-refuse_if.was (ap not c.in_range.ensures)
+    (goes_on c.refuse_if-2.ensures c.in_ok-refuse_if-2.was (or_same c.length_differs.ensures c.length_differs-2.ensures)
+    (goes_on c.refuse_if-3.ensures c.in_ok-refuse_if-3.was (c.is_outside.ensures)
+    (goes_on c.refuse_if-4.ensures c.in_ok-refuse_if-4.was (c.is_over.ensures)
+    (no_rows _)))))
+    refl
+
+pub is_outside-requires : goal.is_outside-requires
+is_outside-requires c = params_modulus (answered_range _ c.in_range.ensures (was_false c.refuse_if.ensures c.in_ok-refuse_if.was))
