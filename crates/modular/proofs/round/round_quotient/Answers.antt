@@ -1,6 +1,9 @@
--- `round_quotient` answers round(a/q), by `one_less` and `as_cut` of Rounded. Nothing wraps, since |a| ≤ 2^62. Assumes nothing.
-use Rattle.modular.proofs.Rounded.{one_less_fits}
+-- `round_quotient` answers round(a/q), by `rounds` of Rounded. Assumes nothing.
+use Rattle.std.proofs.Common.{rules, ◌∙◌, to_z-of_z, SFits, w64}
+use Rattle.modular.proofs.Rounded.{rounds}
 use Rattle.modular.proofs.round.round_quotient.Goals as goal
 
-pub overflow_sub-result : goal.overflow_sub-result
-overflow_sub-result c = one_less_fits c.args.q c.args.a c.requires.0 c.requires.1 c.ranges.a
+pub returns : goal.returns
+returns c =
+    let read : SFits w64 c.div_euclid.result = search rules in
+    to_z-of_z read ∙ c.div_euclid.ensures ∙ rw c.from-modulus.ensures (rounds c.args.q c.args.a c.requires.0 c.requires.1 c.ranges.a)
