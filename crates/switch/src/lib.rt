@@ -14,7 +14,8 @@ use modular::wide::Wide;
 // The exact sum of at most 16 products.
 fn inner(t: &[i64], row: &[i64]) -> i64
     requires { (length t.now ≤ 16) × (length row.now ≡ length t.now) × UpTo 524288 t.now × UpTo 549755813888 row.now }
-    ensures { result ≡ inner t.now row.now }
+    ensures value { result ≡ inner t.now row.now }
+    ensures small { nat_abs result ≤ 4611686018427387904 }
 {
     let mut sum = 0;
     for (x, y) in t.iter().zip(row) {
@@ -23,26 +24,19 @@ fn inner(t: &[i64], row: &[i64]) -> i64
     sum
 }
 
-// The exact sum S of a row, which reaches 2^78: each chunk of 16 products is folded into a high and a low part. That a chunk is an array says how many there are,
-// so that its sum is unrolled whole; and one count serves both rows, which spares the loop the test that a zip makes of the second.
+// The exact sum S of a row, which reaches 2^78: the sums of 16 products each, and of those that are left. A chunk is an array, which says how many products
+// there are, so that its sum is unrolled whole; and one count serves both rows, which spares the loop the test that a zip makes of the second.
 fn row_sum(t: &[i64], row: &[i64]) -> Wide
     requires { (length t.now ≤ 1048576) × (length row.now ≡ length t.now) × UpTo 524288 t.now × UpTo 549755813888 row.now }
     ensures { (result.hi *ℤ pos 1048576 +ℤ result.lo ≡ inner t.now row.now) × (nat_abs result.lo ≤ 137438953472) }
 {
     let (chunks, rest) = t.as_chunks::<16>();
     let (row_chunks, row_rest) = row.as_chunks::<16>();
-    let mut hi = 0;
-    let mut lo = 0;
+    let mut sum = Wide { hi: 0, lo: 0 };
     for (k, chunk) in chunks.iter().enumerate() {
-        let sum = inner(chunk, &row_chunks[k]);
-        hi += sum / 1048576;
-        lo += sum % 1048576;
+        sum = sum.plus(inner(chunk, &row_chunks[k]));
     }
-    let sum = inner(rest, row_rest);
-    Wide {
-        hi: hi + sum / 1048576,
-        lo: lo + sum % 1048576,
-    }
+    sum.plus(inner(rest, row_rest))
 }
 
 // One switched entry: [round(S/q)]q for the exact S. Only S modulo Q matters, so that S is reduced before it is rounded.

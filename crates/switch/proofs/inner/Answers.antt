@@ -1,8 +1,8 @@
 -- `inner` returns the inner product of two slices of one length, at most 16. That no product and no sum wraps follows from the invariant: t's sizes sum to at most
 -- 16·2^19, and no entry of the row is above 2^39 (`turn` of Sums). Assumes nothing.
-use Rattle.std.proofs.Common.{◌∙◌, arith, rules, length, length-append, pos, to_z, to_z-of_z, w64, SFits}
+use Rattle.std.proofs.Common.{◌≡◌, ◌∙◌, arith, rules, length, length-append, pos, to_z, to_z-of_z, w64, SFits}
 use Rattle.std.proofs.lemmas.Slice.Zip.{zip_turn, zip_end}
-use Rattle.whole.specs.Inner.{sizes_most}
+use Rattle.whole.specs.Inner.{inner, inner_most, sizes_most}
 use Rattle.whole.specs.Machine.{word}
 use Rattle.passes.proofs.Sums.{Turn, sum_start, sum_end, turn}
 use Rattle.switch.proofs.inner.Goals as goal
@@ -27,7 +27,14 @@ overflow_add-sum c = (step c).total
 pub loop-x-preserved : goal.loop-x-preserved
 loop-x-preserved c = rw length-append (step c).next
 
-pub returns : goal.returns
-returns c =
+-- all products
+total : (c : goal.In-None) → to_z w64 c.loop-x.sum-bits ≡ inner c.args.t.now c.args.row.now
+total c =
     let e = zip_end c.args.t.now c.args.row.now c.loop-x.yielded c.into_iter-x-iterator.result c.loop-x.x-iterator c.next.new.self c.next.result (cc) (cc) c.loop-x.yielded_by c.in-None.is c.next.ensures.steps in
     sum_end c.loop-x.invariant (omega arith) (omega arith)
+
+pub returns-clause-value : goal.returns-clause-value
+returns-clause-value c = total c
+
+pub returns-clause-small : goal.returns-clause-small
+returns-clause-small c = rw (total c) (omega (arith, inner_most c.requires.2 c.requires.3))

@@ -4,4 +4,4 @@ use Rattle.switch.proofs.Chunks.{Held}
 use Rattle.switch.proofs.row_sum.Given as goal
 
 abbrev pub invariant-loop-k : goal.invariant-loop-k
-invariant-loop-k l = Held l.t l.row (l.k * 16) (l.k * 16) l.hi l.lo
+invariant-loop-k l = Held l.t l.row (l.k * 16) (l.k * 16) l.sum.hi l.sum.lo
