@@ -1,13 +1,14 @@
 // Evaluating a circuit of XOR, AND and NOT gates on encrypted wires.
 #![tactic(auto)]
 
-mod number;
+mod check;
 
+ghost use Rattle.refusal.specs.Answer.{answer_to};
 ghost use Rattle.circuit.specs.Plan.{plan_loans};
 ghost use Rattle.circuit.specs.Evaluate.{evaluate_loans, EvaluatePromise};
 
+use check::check_evaluate;
 use checks::lent::Gates;
-use number::evaluate_number;
 use planning::plan;
 use refusal::{Params, Refusal};
 use working::work;
@@ -22,17 +23,11 @@ pub fn evaluate<C: Gates>(
     bounds: &mut [u32],
     key: &[i64],
     scratch: &mut [i64],
-) -> Refusal
-    ensures { EvaluatePromise (evaluate_loans (plan_loans p inputs (C.lent circuit.now) bounds.old) wires.old key.now scratch.old) result wires.new bounds.new scratch.new }
+) -> Result<(), Refusal>
+    ensures { EvaluatePromise (evaluate_loans (plan_loans p inputs (C.lent circuit.now) bounds.old) wires.old key.now scratch.old) (answer_to result) wires.new bounds.new scratch.new }
 {
-    let number = evaluate_number(p, inputs, circuit, wires, bounds, key, scratch);
-    if number != 0 {
-        return Refusal { number, place: 0 };
-    }
-    let planned = plan(p, inputs, circuit, bounds);
-    if planned.number != 0 {
-        return planned;
-    }
+    check_evaluate(p, inputs, circuit, wires, bounds, key, scratch)?;
+    plan(p, inputs, circuit, bounds)?;
     work(p, inputs as usize, circuit, wires, key, scratch);
-    planned
+    Ok(())
 }

@@ -1,9 +1,11 @@
 -- `evaluate` answers and writes as evaluation is defined: each return is one of the three ends of `Evaluated`. Where its own rows refuse, nothing is written; else
 -- the answer and the bounds are planning's; and where planning does not refuse either (`EvaluateReady`) the wires and the scratch are what `work` leaves.
-use Rattle.std.proofs.Common.{◌≡◌, sym, ◌∙◌, List, ℕ, ℤ}
+use Rattle.std.proofs.Common.{◌≡◌, sym, ◌∙◌, List, ℕ, ℤ, Result, Ok}
 use Rattle.refusal.specs.declared.Params.{Params}
 use Rattle.refusal.specs.declared.Refusal.{Refusal}
+use Rattle.refusal.specs.Answer.{answer_to}
 use Rattle.refusal.specs.First.{first_of, none_true}
+use Rattle.refusal.proofs.Given.{passed_up, done_by}
 use Rattle.circuit.specs.Circuits.{Circuit, gate_rows}
 use Rattle.circuit.specs.Plan.{plan_loans, PlanPromise}
 use Rattle.circuit.specs.Evaluate.{EvaluateLoans, evaluate_loans, evaluate_front}
@@ -17,11 +19,11 @@ module _ (p : Params) (inputs : ℕ) (circuit : Circuit) (bounds : List ℕ) (wi
   abbrev loans : EvaluateLoans
   loans = evaluate_loans (plan_loans p inputs circuit bounds) wires W scratch
 
-  ready : first_of (evaluate_front loans) ≡ 0 → {r : Refusal} {new : List ℕ} → PlanPromise loans.plan r new → r.number ≡ 0
+  ready : first_of (evaluate_front loans) ≡ 0 → {r : Result (Unit {0}) Refusal} {u : Unit {0}} {new : List ℕ} → PlanPromise loans.plan (answer_to r) new → r ≡ Ok u
       → EvaluateReady p inputs circuit wires W scratch
   unfolding gate_rows
-  ready front planned none =
-      let r = evaluate_done loans (evaluated_clear loans front planned none) in
+  ready front planned went =
+      let r = evaluate_done loans (evaluated_clear loans front planned went) in
       let h = r.passed in
       record {
         key = record { range = h.range; key_long = h.key_long; key_inside = h.key_inside; scratch_long = h.scratch_long };
@@ -31,18 +33,19 @@ module _ (p : Params) (inputs : ℕ) (circuit : Circuit) (bounds : List ℕ) (wi
         gates_right = none_true _ r.gates_clear.0;
       }
 
-pub returns-then-number-ne0 : goal.returns-then-number-ne0
-returns-then-number-ne0 g c = evaluated_early _ c.evaluate_number-number.ensures c.if-number-ne0.true
+pub returns-in_err-check_evaluate : goal.returns-in_err-check_evaluate
+returns-in_err-check_evaluate g c = evaluated_early _ c.check_evaluate.ensures c.in_err-check_evaluate.was (passed_up _ c.from_residual.ensures.1)
 
-pub returns-then-planned-ne0 : goal.returns-then-planned-ne0
-returns-then-planned-ne0 g c =
-    evaluated_late _ (sym c.evaluate_number-number.ensures ∙ c.if-number-ne0.false) c.plan-planned.ensures c.if-planned-ne0.true
+pub returns-in_err-plan : goal.returns-in_err-plan
+returns-in_err-plan g c =
+    evaluated_late _ (done_by _ c.check_evaluate.ensures c.in_ok-check_evaluate.was) c.plan.ensures c.in_err-plan.was
+    (passed_up _ c.from_residual-in_err-plan.ensures.1)
 
 pub work-requires : goal.work-requires
 work-requires g c =
-    ready _ _ _ _ _ _ _ (sym c.evaluate_number-number.ensures ∙ c.if-number-ne0.false) c.plan-planned.ensures c.if-planned-ne0.false
+    ready _ _ _ _ _ _ _ (done_by _ c.check_evaluate.ensures c.in_ok-check_evaluate.was) c.plan.ensures c.in_ok-plan.was
 
 pub returns : goal.returns
 returns g c =
-    evaluated_done _ (sym c.evaluate_number-number.ensures ∙ c.if-number-ne0.false) c.plan-planned.ensures c.if-planned-ne0.false
+    evaluated_done _ (done_by _ c.check_evaluate.ensures c.in_ok-check_evaluate.was) c.plan.ensures c.in_ok-plan.was
     c.work.ensures.wires_after c.work.ensures.scratch_after

@@ -1,26 +1,23 @@
--- `number::evaluate_number` gives the number of the first row of evaluation that applies of those before planning's, each return by what the tests and `row`
--- ensure. Past 2 the counts are small, so that no product wraps, and past 3 the inputs' wires lie within the buffer.
+-- `check::check_evaluate` answers by the rows of evaluation before planning's: each `refuse_if` asks the next row's test. Past 2 the counts are small, so that no
+-- product wraps, and past 3 the inputs' wires lie within the buffer.
 use Rattle.std.proofs.Common.{◌≡◌, refl, sym, ap, ◌∙◌, Bool, true, false, not, ◌||◌, List, ℕ, ◌+◌, ◌*◌, ◌≤◌, ℤ, length, length-take-le, mul-le-mul, mul-le-mul_right, arith}
 use Rattle.whole.specs.Tests.{or_left, or_right}
 use Rattle.refusal.specs.declared.Params.{Params}
 use Rattle.refusal.specs.Parameters.{in_range, InRange}
 use Rattle.refusal.specs.First.{Row}
-use Rattle.scheme.specs.Calls.{differs}
+use Rattle.refusal.proofs.Given.{given, refuses, goes_on, last_row, was_false}
+use Rattle.scheme.specs.Calls.{bad_params, differs}
 use Rattle.scheme.specs.Passed.{length_is}
-use Rattle.keys.specs.Chain.{params_modulus, params_tested, answered_range, given, stops, passes, asks, no_rows, or_same}
+use Rattle.keys.specs.Chain.{params_modulus, answered_range, or_same}
 use Rattle.circuit.specs.Circuits.{Circuit, bad_counts}
 use Rattle.circuit.specs.Plan.{plan_loans, wire_count}
 use Rattle.circuit.specs.Evaluate.{EvaluateLoans, evaluate_loans, evaluate_front}
 use Rattle.circuit.specs.Answers.{inputs_within, gates_within}
-use Rattle.evaluation.proofs.number.evaluate_number.Goals as goal
+use Rattle.evaluation.proofs.check.check_evaluate.Goals as goal
 
 -- the rows before planning's, of what is lent
 abbrev front : Params → ℕ → Circuit → List ℕ → (wires W scratch : List ℤ) → List Row
 front p inputs circuit bounds wires W scratch = evaluate_front (evaluate_loans (plan_loans p inputs circuit bounds) wires W scratch)
-
--- past 1
-range : {p : Params} {t : Bool} → t ≡ in_range p → t ≡ true → InRange p
-range {p} first ok = answered_range p first (ap not ok)
 
 -- so that no product wraps
 cube_fits : {p : Params} → InRange p → p.n * (p.n * p.n) ≤ 1073741824
@@ -54,61 +51,67 @@ module _ (a : EvaluateLoans) {t : Bool}
       let long : length a.wires ≡ wire_count l * l.p.n = length_is _ _ (search (or_left, or_right, sym third ∙ same) depth 10) in
       rw long (mul-le-mul_right l.p.n (omega arith))
 
-pub returns-then-not-in_range : goal.returns-then-not-in_range
-unfolding evaluate_front
-returns-then-not-in_range g c =
+pub returns-in_err-refuse_if : goal.returns-in_err-refuse_if
+unfolding evaluate_front bad_params
+returns-in_err-refuse_if g c =
     given (front c.args.p c.args.inputs (g.C.Gates.lent c.args.circuit.now) c.args.bounds.now c.args.wires.now c.args.key.now c.args.scratch.now)
-    (stops (sym (params_tested _ c.in_range.ensures refl)) (ap not c.if-not-in_range.true))
+    (refuses refl c.refuse_if.ensures c.in_err-refuse_if.was (ap not c.in_range.ensures) c.from_residual.ensures.1)
 
-pub returns-then-are_bad_counts : goal.returns-then-are_bad_counts
-unfolding evaluate_front
-returns-then-are_bad_counts g c =
+pub returns-in_err-refuse_if-2 : goal.returns-in_err-refuse_if-2
+unfolding evaluate_front bad_params
+returns-in_err-refuse_if-2 g c =
     given (front c.args.p c.args.inputs (g.C.Gates.lent c.args.circuit.now) c.args.bounds.now c.args.wires.now c.args.key.now c.args.scratch.now)
-    (passes (sym (params_tested _ c.in_range.ensures refl)) (ap not c.if-not-in_range.false)
-    (stops (rw c.count-gates.ensures at c.are_bad_counts.ensures) c.if-are_bad_counts.true))
+    (goes_on c.refuse_if.ensures c.in_ok-refuse_if.was (ap not c.in_range.ensures)
+    (refuses refl c.refuse_if-2.ensures c.in_err-refuse_if-2.was (rw c.count-gates.ensures at c.are_bad_counts.ensures) c.from_residual-in_err-refuse_if-2.ensures.1))
+
+pub overflow_mul-square : goal.overflow_mul-square
+overflow_mul-square g c = let r = (answered_range _ c.in_range.ensures (was_false c.refuse_if.ensures c.in_ok-refuse_if.was)) in omega (arith, mul-le-mul r.n_high r.n_high)
 
 pub overflow_add-total : goal.overflow_add-total
 overflow_add-total g c =
-    let counts = sym c.are_bad_counts.ensures ∙ c.if-are_bad_counts.false in
+    let counts = sym c.are_bad_counts.ensures ∙ was_false c.refuse_if-2.ensures c.in_ok-refuse_if-2.was in
     omega (arith, inputs_within _ _ counts, gates_within _ _ counts)
 
 pub overflow_mul-total : goal.overflow_mul-total
-overflow_mul-total g c = omega (arith, total_fits _ _ (range c.in_range.ensures c.if-not-in_range.false) c.are_bad_counts.ensures c.if-are_bad_counts.false)
+overflow_mul-total g c =
+    omega (arith, total_fits _ _ (answered_range _ c.in_range.ensures (was_false c.refuse_if.ensures c.in_ok-refuse_if.was)) c.are_bad_counts.ensures (was_false c.refuse_if-2.ensures c.in_ok-refuse_if-2.was))
 
 pub overflow_mul-n : goal.overflow_mul-n
-overflow_mul-n g c = omega (arith, cube_fits (range c.in_range.ensures c.if-not-in_range.false))
+overflow_mul-n g c = omega (arith, cube_fits (answered_range _ c.in_range.ensures (was_false c.refuse_if.ensures c.in_ok-refuse_if.was)))
 
-pub returns-then-is_uneven-length_differs : goal.returns-then-is_uneven-length_differs
-unfolding evaluate_front
-returns-then-is_uneven-length_differs g c =
+pub returns-in_err-refuse_if-3 : goal.returns-in_err-refuse_if-3
+unfolding evaluate_front bad_params
+returns-in_err-refuse_if-3 g c =
     given (front c.args.p c.args.inputs (g.C.Gates.lent c.args.circuit.now) c.args.bounds.now c.args.wires.now c.args.key.now c.args.scratch.now)
-    (passes (sym (params_tested _ c.in_range.ensures refl)) (ap not c.if-not-in_range.false)
-    (passes (rw c.count-gates.ensures at c.are_bad_counts.ensures) c.if-are_bad_counts.false
-    (stops
-    (lengths_same c.is_uneven.ensures (rw c.count-gates.ensures at c.length_differs.ensures) (rw c.count-gates.ensures at c.length_differs-2.ensures) c.length_differs-3.ensures c.length_differs-4.ensures)
-    c.if-is_uneven-length_differs.true)))
+    (goes_on c.refuse_if.ensures c.in_ok-refuse_if.was (ap not c.in_range.ensures)
+    (goes_on c.refuse_if-2.ensures c.in_ok-refuse_if-2.was (rw c.count-gates.ensures at c.are_bad_counts.ensures)
+    (refuses refl c.refuse_if-3.ensures c.in_err-refuse_if-3.was
+    (lengths_same c.is_uneven.ensures (rw c.count-gates.ensures at c.length_differs.ensures) (rw c.count-gates.ensures at c.length_differs-2.ensures)
+    c.length_differs-3.ensures c.length_differs-4.ensures)
+    c.from_residual-in_err-refuse_if-3.ensures.1)))
 
 pub slice_bounds-is_outside-end : goal.slice_bounds-is_outside-end
 slice_bounds-is_outside-end g c =
     let a = c.args in
     let loans : EvaluateLoans =
     evaluate_loans (plan_loans a.p a.inputs (g.C.Gates.lent a.circuit.now) a.bounds.now) a.wires.now a.key.now a.scratch.now in
-    let lengths = lengths_same c.is_uneven.ensures (rw c.count-gates.ensures at c.length_differs.ensures) (rw c.count-gates.ensures at c.length_differs-2.ensures) c.length_differs-3.ensures c.length_differs-4.ensures in
-    sym (length-take-le _ _ (inputs_inside loans lengths c.if-is_uneven-length_differs.false))
+    let lengths = lengths_same c.is_uneven.ensures (rw c.count-gates.ensures at c.length_differs.ensures) (rw c.count-gates.ensures at c.length_differs-2.ensures)
+    c.length_differs-3.ensures c.length_differs-4.ensures in
+    sym (length-take-le _ _ (inputs_inside loans lengths (was_false c.refuse_if-3.ensures c.in_ok-refuse_if-3.was)))
 
 pub is_outside-requires : goal.is_outside-requires
-is_outside-requires g c = params_modulus (range c.in_range.ensures c.if-not-in_range.false)
+is_outside-requires g c = params_modulus (answered_range _ c.in_range.ensures (was_false c.refuse_if.ensures c.in_ok-refuse_if.was))
 
 pub is_outside_big-requires : goal.is_outside_big-requires
-is_outside_big-requires g c = params_modulus (range c.in_range.ensures c.if-not-in_range.false)
+is_outside_big-requires g c = params_modulus (answered_range _ c.in_range.ensures (was_false c.refuse_if.ensures c.in_ok-refuse_if.was))
 
 pub returns : goal.returns
-unfolding evaluate_front
+unfolding evaluate_front bad_params
 returns g c =
     given (front c.args.p c.args.inputs (g.C.Gates.lent c.args.circuit.now) c.args.bounds.now c.args.wires.now c.args.key.now c.args.scratch.now)
-    (passes (sym (params_tested _ c.in_range.ensures refl)) (ap not c.if-not-in_range.false)
-    (passes (rw c.count-gates.ensures at c.are_bad_counts.ensures) c.if-are_bad_counts.false
-    (passes
-    (lengths_same c.is_uneven.ensures (rw c.count-gates.ensures at c.length_differs.ensures) (rw c.count-gates.ensures at c.length_differs-2.ensures) c.length_differs-3.ensures c.length_differs-4.ensures)
-    c.if-is_uneven-length_differs.false
-    (asks c.row.ensures (or_same c.is_outside.ensures c.is_outside_big.ensures) no_rows))))
+    (goes_on c.refuse_if.ensures c.in_ok-refuse_if.was (ap not c.in_range.ensures)
+    (goes_on c.refuse_if-2.ensures c.in_ok-refuse_if-2.was (rw c.count-gates.ensures at c.are_bad_counts.ensures)
+    (goes_on c.refuse_if-3.ensures c.in_ok-refuse_if-3.was
+    (lengths_same c.is_uneven.ensures (rw c.count-gates.ensures at c.length_differs.ensures) (rw c.count-gates.ensures at c.length_differs-2.ensures)
+    c.length_differs-3.ensures c.length_differs-4.ensures)
+    (last_row refl c.refuse_if-4.ensures (or_same c.is_outside.ensures c.is_outside_big.ensures)))))
