@@ -1,6 +1,6 @@
 -- The rows of evaluation in two stages: those that it tests itself, and then 8, 9 and 10, which are planning's. And the three ends of evaluation: what each
 -- answers and leaves, where the first stage refuses, where planning does, and where neither does.
-use Rattle.std.proofs.Common.{◌≡◌, refl, sym, ap, ◌∙◌, ◌≢◌, List, ◌++◌, ℕ, ◌*◌, replicate, Result, Ok, Err, arith}
+use Rattle.std.proofs.Common.{◌≡◌, sym, ap, ◌∙◌, ◌≢◌, List, ◌++◌, ℕ, ◌*◌, replicate, Result, Ok, Err, arith}
 use Rattle.std.specs.Prelude.{ℤ, pos}
 use mathlib.Core.List.{flatten}
 use Rattle.whole.specs.Lists.{cut}
@@ -44,31 +44,31 @@ module _ (a : EvaluateLoans) where
     late : (plan_answer a.plan ≡ evaluate_answer a) × (plan_bounds a.plan ≡ evaluate_bounds a)
     late = plan_agrees a (evaluate_clear a front)
 
-    module _ {x : Result (Unit {0}) Refusal} {bounds : List ℕ} (planned : PlanPromise a.plan (answer_to x) bounds) where
-      answer : answer_to x ≡ evaluate_answer a
-      answer = planned.answer ∙ late.0
+    answer : {r : Answer} {bounds : List ℕ} → PlanPromise a.plan r bounds → r ≡ evaluate_answer a
+    answer planned = planned.answer ∙ late.0
 
+    module _ {x : Result (Unit {0}) Refusal} {bounds : List ℕ} (planned : PlanPromise a.plan (answer_to x) bounds) where
       -- planning refuses
       pub evaluated_late : {r : Result (Unit {0}) Refusal} {e : Refusal} → x ≡ Err e → r ≡ Err e → EvaluatePromise a (answer_to r) a.wires bounds a.scratch
       evaluated_late {r} {e} h up =
           let same : answer_to r ≡ answer_to x = ap answer_to (up ∙ sym h) in
           let numbered : (answer_to r).number ≢ 0 = λ z. absurd (omega (arith, refusal_numbered e, sym (ap (λ (y : Result (Unit {0}) Refusal). (answer_to y).number) up) ∙ z)) in
-          evaluated_refused (same ∙ answer) numbered (planned.bounds_left ∙ late.1)
+          evaluated_refused (same ∙ answer planned) numbered (planned.bounds_left ∙ late.1)
 
       -- ---- neither refuses
 
       module _ {u : Unit {0}} (went : x ≡ Ok u) where
         pub evaluated_clear : first_of (evaluate_rows a) ≡ 0
-        evaluated_clear = sym (answer_number (sym (ap answer_to went) ∙ answer))
+        evaluated_clear = sym (answer_number (sym (ap answer_to went) ∙ answer planned))
 
         pub evaluated_done : {wires scratch : List ℤ}
             → wires ≡ flatten (wires_of a.plan.p a.key a.plan.circuit.gates (cut a.plan.p.n a.plan.inputs a.wires))
             → scratch ≡ replicate (a.plan.p.n * a.plan.p.n) (pos 0)
-            → EvaluatePromise a (answer_to (Ok tt)) wires bounds scratch
+            → EvaluatePromise a (answer_to (Ok (tt {0}))) wires bounds scratch
         unfolding evaluate_wires evaluate_scratch
         evaluated_done w s =
             record {
-              answer = sym (ap answer_to went) ∙ answer;
+              answer = sym (ap answer_to went) ∙ answer planned;
               wires_left = w ∙ sym (done_or_done _ _ evaluated_clear);
               bounds_left = planned.bounds_left ∙ late.1;
               scratch_left = s ∙ sym (done_or_done _ _ evaluated_clear);

@@ -4,7 +4,7 @@ use Rattle.std.specs.Prelude.{◌≡◌, refl, Bool, true, false, List, ◌∷�
 use Rattle.std.proofs.Common.{sym, ◌∙◌, arith, take_all, length-take-le, ltb-true, ltb-false}
 use Rattle.std.proofs.Math.Path.{ap}
 use Rattle.std.proofs.Math.Bool.{cond}
-use Rattle.refusal.specs.declared.Refusal.{Refusal}
+use Rattle.refusal.specs.Answer.{Answer}
 use Rattle.refusal.specs.First.{Row, row, refused, first_of, place_of, answer_of, some_true, first_true, done_or}
 use Rattle.scheme.specs.Calls.{bad_params}
 use Rattle.circuit.specs.declared.Gate.{Gate}
@@ -49,7 +49,7 @@ module _ (a : PlanLoans) (gates : List Gate) (long : 4096 < length gates) where
   plan_kept : plan_bounds (plan_of a gates) ≡ a.bounds
   unfolding plan_answer plan_bounds
   plan_kept =
-      let number : first_of (plan_rows (plan_of a gates)) ≡ cond (bad_params a.p) 1 2 = ap (λ (r : Refusal). r.number) plan_refused in
+      let number : first_of (plan_rows (plan_of a gates)) ≡ cond (bad_params a.p) 1 2 = ap (λ (r : Answer). r.number) plan_refused in
       rw number (early_kept (bad_params a.p) _ a.bounds)
 
 module _ (a : EvaluateLoans) (gates : List Gate) (long : 4096 < length gates) where
@@ -62,7 +62,7 @@ module _ (a : EvaluateLoans) (gates : List Gate) (long : 4096 < length gates) wh
 
   number : first_of (evaluate_rows (evaluate_of a gates)) ≡ cond bad 1 2
   unfolding evaluate_answer
-  number = ap (λ (r : Refusal). r.number) evaluate_refused
+  number = ap (λ (r : Answer). r.number) evaluate_refused
 
   wires_kept : evaluate_wires (evaluate_of a gates) ≡ a.wires
   unfolding evaluate_wires
@@ -97,14 +97,14 @@ module _ (gates : List Gate) where
   listed = take (listed_count (length gates)) (first_gates gates)
 
   -- **what is promised of the gates that are listed is promised of the run**
-  pub plan_enough : (a : PlanLoans) {r : Refusal} {bounds : List ℕ} → PlanPromise (plan_of a listed) r bounds → PlanPromise (plan_of a gates) r bounds
+  pub plan_enough : (a : PlanLoans) {r : Answer} {bounds : List ℕ} → PlanPromise (plan_of a listed) r bounds → PlanPromise (plan_of a gates) r bounds
   plan_enough a e =
       record {
         answer = e.answer ∙ enough (λ gs. plan_answer (plan_of a gs)) _ (plan_refused a) gates;
         bounds_left = e.bounds_left ∙ enough (λ gs. plan_bounds (plan_of a gs)) _ (plan_kept a) gates;
       }
 
-  pub evaluate_enough : (a : EvaluateLoans) {r : Refusal} {wires : List ℤ} {bounds : List ℕ} {scratch : List ℤ}
+  pub evaluate_enough : (a : EvaluateLoans) {r : Answer} {wires : List ℤ} {bounds : List ℕ} {scratch : List ℤ}
       → EvaluatePromise (evaluate_of a listed) r wires bounds scratch → EvaluatePromise (evaluate_of a gates) r wires bounds scratch
   evaluate_enough a e =
       record {

@@ -1,3 +1,4 @@
+ghost use Rattle.refusal.specs.Answer.{answer_to};
 ghost use Rattle.circuit.specs.Circuits.{as_records};
 ghost use Rattle.circuit.specs.Plan.{plan_loans};
 ghost use Rattle.circuit.specs.Evaluate.{evaluate_loans, EvaluatePromise};
@@ -17,8 +18,8 @@ pub fn evaluate_gates(
     bounds: &mut [u32],
     key: &[i64],
     scratch: &mut [i64],
-) -> Refusal
-    ensures { EvaluatePromise (evaluate_loans (plan_loans p inputs (as_records gates.now) bounds.old) wires.old key.now scratch.old) result wires.new bounds.new scratch.new }
+) -> Result<(), Refusal>
+    ensures { EvaluatePromise (evaluate_loans (plan_loans p inputs (as_records gates.now) bounds.old) wires.old key.now scratch.old) (answer_to result) wires.new bounds.new scratch.new }
 {
     evaluate(p, inputs, &Records { gates }, wires, bounds, key, scratch)
 }

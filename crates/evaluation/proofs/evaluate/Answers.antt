@@ -1,6 +1,6 @@
 -- `evaluate` answers and writes as evaluation is defined: each return is one of the three ends of `Evaluated`. Where its own rows refuse, nothing is written; else
 -- the answer and the bounds are planning's; and where planning does not refuse either (`EvaluateReady`) the wires and the scratch are what `work` leaves.
-use Rattle.std.proofs.Common.{◌≡◌, sym, ◌∙◌, List, ℕ, ℤ, Result, Ok}
+use Rattle.std.proofs.Common.{◌≡◌, List, ℕ, ℤ, Result, Ok}
 use Rattle.refusal.specs.declared.Params.{Params}
 use Rattle.refusal.specs.declared.Refusal.{Refusal}
 use Rattle.refusal.specs.Answer.{answer_to}

@@ -1,9 +1,9 @@
 -- `check::check_evaluate` answers by the rows of evaluation before planning's: each `refuse_if` asks the next row's test. Past 2 the counts are small, so that no
 -- product wraps, and past 3 the inputs' wires lie within the buffer.
-use Rattle.std.proofs.Common.{◌≡◌, refl, sym, ap, ◌∙◌, Bool, true, false, not, ◌||◌, List, ℕ, ◌+◌, ◌*◌, ◌≤◌, ℤ, length, length-take-le, mul-le-mul, mul-le-mul_right, arith}
+use Rattle.std.proofs.Common.{◌≡◌, refl, sym, ap, ◌∙◌, Bool, false, not, ◌||◌, List, ℕ, ◌+◌, ◌*◌, ◌≤◌, ℤ, length, length-take-le, mul-le-mul, mul-le-mul_right, arith}
 use Rattle.whole.specs.Tests.{or_left, or_right}
 use Rattle.refusal.specs.declared.Params.{Params}
-use Rattle.refusal.specs.Parameters.{in_range, InRange}
+use Rattle.refusal.specs.Parameters.{InRange}
 use Rattle.refusal.specs.First.{Row}
 use Rattle.refusal.proofs.Given.{given, refuses, goes_on, last_row, was_false}
 use Rattle.scheme.specs.Calls.{bad_params, differs}
