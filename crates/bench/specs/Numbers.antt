@@ -1,7 +1,7 @@
 -- What the timed calls of planning and evaluation promise: those of planning and evaluation, of the number alone.
 use Rattle.std.specs.Prelude.{◌≡◌, List, ℕ, ℤ}
 use Rattle.std.proofs.Common.{ap}
-use Rattle.refusal.specs.declared.Refusal.{Refusal}
+use Rattle.refusal.specs.Answer.{Answer}
 use Rattle.circuit.specs.Plan.{PlanLoans, plan_answer, plan_bounds, PlanPromise}
 use Rattle.circuit.specs.Evaluate.{EvaluateLoans, evaluate_answer, evaluate_wires, evaluate_bounds, evaluate_scratch, EvaluatePromise}
 
@@ -15,10 +15,10 @@ pub record EvaluateNumber (a : EvaluateLoans) (r : ℕ) (wires : List ℤ) (boun
   pub bounds_left : bounds ≡ evaluate_bounds a
   pub scratch_left : scratch ≡ evaluate_scratch a
 
-pub plan_number : {a : PlanLoans} {r : Refusal} {bounds : List ℕ} → PlanPromise a r bounds → PlanNumber a r.number bounds
-plan_number e = record { number = ap (λ (x : Refusal). x.number) e.answer; bounds_left = e.bounds_left }
+pub plan_number : {a : PlanLoans} {r : Answer} {bounds : List ℕ} → PlanPromise a r bounds → PlanNumber a r.number bounds
+plan_number e = record { number = ap (λ (x : Answer). x.number) e.answer; bounds_left = e.bounds_left }
 
-pub evaluate_number : {a : EvaluateLoans} {r : Refusal} {wires : List ℤ} {bounds : List ℕ} {scratch : List ℤ} → EvaluatePromise a r wires bounds scratch
+pub evaluate_number : {a : EvaluateLoans} {r : Answer} {wires : List ℤ} {bounds : List ℕ} {scratch : List ℤ} → EvaluatePromise a r wires bounds scratch
     → EvaluateNumber a r.number wires bounds scratch
 evaluate_number e =
-    record { number = ap (λ (x : Refusal). x.number) e.answer; wires_left = e.wires_left; bounds_left = e.bounds_left; scratch_left = e.scratch_left }
+    record { number = ap (λ (x : Answer). x.number) e.answer; wires_left = e.wires_left; bounds_left = e.bounds_left; scratch_left = e.scratch_left }

@@ -2,6 +2,7 @@ ghost use Rattle.std.specs.Prelude.{◌≡◌};
 ghost use Rattle.refusal.specs.Parameters.{params};
 ghost use Rattle.scheme.specs.Calls.{xor_loans, xor_answer, xor_result, not_loans, not_answer, not_result};
 
+use crate::number;
 use gates::{not, xor};
 use refusal::Params;
 
@@ -22,7 +23,7 @@ pub extern "C" fn bench_xor(
     ensures answer { result ≡ (xor_answer (xor_loans (params n q l e f) c.now b1 d.now b2 out.old)).number }
     ensures buffer { out.new ≡ xor_result (xor_loans (params n q l e f) c.now b1 d.now b2 out.old) }
 {
-    xor(Params { n, q, l, e, f }, c, b1, d, b2, out).number
+    number(xor(Params { n, q, l, e, f }, c, b1, d, b2, out))
 }
 
 // NOT on a set of any five numbers: answers the number.
@@ -40,5 +41,5 @@ pub extern "C" fn bench_not(
     ensures answer { result ≡ (not_answer (not_loans (params n q l e f) c.now bound out.old)).number }
     ensures buffer { out.new ≡ not_result (not_loans (params n q l e f) c.now bound out.old) }
 {
-    not(Params { n, q, l, e, f }, c, bound, out).number
+    number(not(Params { n, q, l, e, f }, c, bound, out))
 }

@@ -4,6 +4,7 @@ ghost use Rattle.circuit.specs.Plan.{plan_loans};
 ghost use Rattle.circuit.specs.Evaluate.{evaluate_loans};
 ghost use Rattle.bench.specs.Numbers.{PlanNumber, EvaluateNumber};
 
+use crate::number;
 use checks::lent::Lists;
 use evaluation::evaluate;
 use planning::plan;
@@ -30,7 +31,7 @@ pub extern "C" fn bench_plan(
         lefts,
         rights,
     };
-    plan(Params { n, q, l, e, f }, inputs, &listed, bounds).number
+    number(plan(Params { n, q, l, e, f }, inputs, &listed, bounds))
 }
 
 // Evaluation on a set of any five numbers: answers the number.
@@ -57,7 +58,7 @@ pub extern "C" fn bench_evaluate(
         lefts,
         rights,
     };
-    evaluate(
+    number(evaluate(
         Params { n, q, l, e, f },
         inputs,
         &listed,
@@ -65,6 +66,5 @@ pub extern "C" fn bench_evaluate(
         bounds,
         key,
         scratch,
-    )
-    .number
+    ))
 }

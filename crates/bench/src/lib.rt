@@ -4,3 +4,18 @@
 
 pub mod ciphers;
 pub mod circuits;
+
+ghost use Rattle.std.specs.Prelude.{◌≡◌};
+ghost use Rattle.refusal.specs.Answer.{answer_to};
+
+use refusal::Refusal;
+
+// The number of what a call answers: 0 where it is done.
+fn number<A: Copy>(answer: Result<A, Refusal>) -> u32
+    ensures { result ≡ (answer_to answer).number }
+{
+    match answer {
+        Ok(_) => 0,
+        Err(refusal) => refusal.number(),
+    }
+}
