@@ -1,10 +1,12 @@
-ghost use Rattle.std.specs.Prelude.{◌≡◌};
+ghost use Rattle.std.specs.Prelude.{◌≡◌, true};
+ghost use Rattle.scheme.specs.Loans.{Modulus};
 ghost use Rattle.loops.specs.Lent.{is_modulus};
 
 // Whether q is a modulus of document 01: even, 16 to 1,048,576.
 #[tactic(auto, unfolding(crate::specs::Lent::is_modulus))]
 pub fn is_modulus(q: u32) -> bool
-    ensures { result ≡ is_modulus q }
+    ensures value { result ≡ is_modulus q }
+    ensures modulus { result ≡ true → Modulus q }
 {
-    (16 <= q) & (q <= 1048576) & (q % 2 == 0)
+    (16..=1048576).contains(&q) && q % 2 == 0
 }

@@ -11,19 +11,12 @@ use switch::fill_switch;
 fn switch_lent(q: u32, t: &[i64], key: &[i64], n: usize) -> bool
     ensures { result ≡ switch_lent q t.now key.now n }
 {
-    if !is_modulus(q) {
-        return false;
-    }
-    if 1024 < n {
-        return false;
-    }
-    if t.len() != n * n {
-        return false;
-    }
-    if key.len() != n * t.len() {
-        return false;
-    }
-    all_residues(t, q) & all_big_residues(key, q)
+    is_modulus(q)
+        && n <= 1024
+        && t.len() == n * n
+        && key.len() == n * t.len()
+        && all_residues(t, q)
+        && all_big_residues(key, q)
 }
 
 // Switches t `times` times into `out` and answers 1; 0 where a loan is not right, and then nothing is written.

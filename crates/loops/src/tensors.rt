@@ -11,19 +11,12 @@ use tensor::fill_tensor;
 fn tensor_lent(q: u32, c: &[i64], d: &[i64], entries: usize) -> bool
     ensures { result ≡ tensor_lent q c.now d.now entries }
 {
-    if !is_modulus(q) {
-        return false;
-    }
-    if 1024 < c.len() {
-        return false;
-    }
-    if 1024 < d.len() {
-        return false;
-    }
-    if entries != c.len() * d.len() {
-        return false;
-    }
-    all_residues(c, q) & all_residues(d, q)
+    is_modulus(q)
+        && c.len() <= 1024
+        && d.len() <= 1024
+        && entries == c.len() * d.len()
+        && all_residues(c, q)
+        && all_residues(d, q)
 }
 
 // Makes the tensor of c and d `times` times in `out` and answers 1; 0 where a loan is not right, and then nothing is written.
