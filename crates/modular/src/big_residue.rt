@@ -9,7 +9,8 @@ use crate::round::round_quotient;
 use crate::wide::Wide;
 
 // A number modulo Q = q², in -Q/2 to Q/2-1. Every entry of row 0 of a made switching key comes out of one, the masks below it being as lent; and so does the
-// sum of a row, before it is rounded.
+// sum of a row, before it is rounded. It is no instance of one generic type with Residue: the two share `of` alone, a line, for which that type would take a trait
+// with a ghost modulus, two marker types and an impl for each.
 #[derive(Clone, Copy)]
 pub struct BigResidue(i64);
 

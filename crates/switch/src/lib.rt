@@ -25,7 +25,7 @@ fn inner(t: &[i64], row: &[i64]) -> i64
 }
 
 // The exact sum S of a row, which reaches 2^78: the sums of 16 products each, and of those that are left. A chunk is an array, which says how many products
-// there are, so that its sum is unrolled whole; and one count serves both rows, which spares the loop the test that a zip makes of the second.
+// there are, so that its sum is unrolled whole. One count serves both rows: a zip tests the second too, and bench/count then finds no row loop of one block.
 fn row_sum(t: &[i64], row: &[i64]) -> Wide
     requires { (length t.now ≤ 1048576) × (length row.now ≡ length t.now) × UpTo 524288 t.now × UpTo 549755813888 row.now }
     ensures { (result.hi *ℤ pos 1048576 +ℤ result.lo ≡ inner t.now row.now) × (nat_abs result.lo ≤ 137438953472) }
