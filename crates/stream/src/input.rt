@@ -65,6 +65,7 @@ impl<R: Read> Input<R> {
     pub fn list(&mut self, out: &mut [i64]) -> Option<usize>
         ensures count_in { IfSome result (λ n. CountIn n out.new) }
         ensures out_len_unchanged { length out.new ≡ length out.old }
+        ensures white_next { IfSome result (λ _. WhiteNext self.new) }
     {
         let n = usize::try_from(self.number()?).ok()?;
         for x in out.get_mut(..n)? {
