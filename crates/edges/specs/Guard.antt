@@ -1,10 +1,13 @@
 -- What the tests at run time answer (`guard`), and what follows from their answers. Assumes nothing.
-use Rattle.std.specs.Prelude.{◌≡◌, refl, Bool, true, false, cond, ◌&&◌, List, [], ◌∷◌, ℕ, zero, suc, ◌+◌, ◌%◌, ◌≤◌, ◌<◌, leb, eqb, ℤ, pos, nat_abs, length, take, get_or}
-use Rattle.std.proofs.Common.{ap, le_of_suc-le-suc, not-suc-le-zero, add-one, arith, take_all, leb-true, eqb-true}
+use Rattle.std.specs.Prelude.{◌≡◌, refl, Bool, true, false, cond, ◌&&◌, List, [], ◌∷◌, Option, Some, None, ℕ, zero, suc, ◌+◌, ◌%◌, ◌≤◌, ◌<◌, leb, eqb, ℤ, pos, negsuc, nat_abs, FitsSigned, length, take, get_or}
+use Rattle.std.proofs.Common.{ap, le_of_suc-le-suc, not-suc-le-zero, add-one, arith, take_all, leb-true, eqb-true, append-nil}
+use Rattle.std.proofs.lemmas.List.{drop_all}
+use Rattle.std.specs.Int.{w32}
 use Rattle.whole.specs.Tests.{clash, and_left, and_right, and_both}
 use Rattle.whole.specs.Lists.{every, every_suc, every_get_or, every_each}
 use Rattle.scheme.specs.Loans.{Modulus, UpTo}
-use Rattle.stream.specs.Ranges.{inside, up_from}
+use Rattle.stream.specs.Front.{front}
+use Rattle.stream.specs.Ranges.{inside, is_narrow, up_from, narrow_fits}
 
 -- x is at most `most` in size
 unfoldable pub is_up_to : ℕ → ℤ → Bool
@@ -14,13 +17,13 @@ is_up_to most x = leb (nat_abs x) most
 unfoldable pub is_modulus : ℤ → Bool
 is_modulus q = inside (pos 1) (pos 1048576) q && eqb (nat_abs q % 2) 0
 
--- q where it is a modulus, and otherwise 0
-unfoldable pub as_modulus : ℤ → ℕ
-as_modulus q = cond (is_modulus q) (nat_abs q) 0
+-- q where it is a modulus
+unfoldable pub as_modulus : ℤ → Option ℕ
+as_modulus q = cond (is_modulus q) (Some (nat_abs q)) None
 
--- x where it is from 0 to 65,536, and otherwise 65,537
-unfoldable pub as_count : ℤ → ℕ
-as_count x = cond (inside (pos 0) (pos 65536) x) (nat_abs x) 65537
+-- x where it is from 0 to 65,536
+unfoldable pub as_count : ℤ → Option ℕ
+as_count x = cond (inside (pos 0) (pos 65536) x) (Some (nat_abs x)) None
 
 -- the entries before the first that fails p
 unfoldable pub leading : (ℤ → Bool) → List ℤ → List ℤ
@@ -74,3 +77,21 @@ unfolding is_modulus
 modulus_is q e =
     let r = up_from 1 1048576 q (and_left _ (eqb (nat_abs q % 2) 0) e) in
     record { positive = r.least; high = r.most; even = omega (arith, eqb-true (nat_abs q % 2) 0 (and_right (inside (pos 1) (pos 1048576) q) _ e)) }
+
+-- the library's test of 32 bits is `is_narrow`
+pub narrow_is : (x : ℤ) → FitsSigned w32 x → is_narrow x ≡ true
+unfolding inside
+narrow_is (pos n) fits = grind (arith, fits.sfits)
+narrow_is (negsuc n) fits = grind (arith, fits.sfits)
+
+pub narrow_is_not : (x : ℤ) → ¬ FitsSigned w32 x → is_narrow x ≡ false
+narrow_is_not x out = by_test (is_narrow x) refl
+  where
+    by_test : (t : Bool) → is_narrow x ≡ t → t ≡ false
+    by_test true e = absurd (out (narrow_fits x e))
+    by_test false e = refl
+
+-- as many places as entries hold just the entries
+pub narrowed : (xs found : List ℤ) → every is_narrow xs ≡ true → length found ≡ length xs → front (leading is_narrow xs) found ≡ xs
+unfolding front
+narrowed xs found e h = rw (leading_all is_narrow xs e, drop_all (length xs) found (omega (arith, h)), append-nil)

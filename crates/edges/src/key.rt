@@ -1,113 +1,64 @@
 // The cases on keys, whose entries are of 32 bits.
-ghost use Rattle.std.specs.Prelude.{◌≡◌, ◌*◌, ◌≤◌, ◌<◌, length};
-ghost use Rattle.stream.specs.Bounds.{Placed};
+ghost use Rattle.std.specs.Prelude.{◌≡◌, ◌≤◌, IfSome, length, pos};
+ghost use Rattle.whole.specs.Inner.{sizes, inner, column as column_of};
+ghost use Rattle.whole.specs.Lists.{cut};
 
-use crate::{guard, print};
+use crate::guard;
 use passes::key::{inner_column, inner_product, sum_of_sizes};
-use std::io::Write;
+
+// The most entries of a key.
+const KEY: usize = 1024;
 
 // The largest size of an entry that a key is multiplied by: 2^39.
 const ENTRY: u64 = 549755813888;
 
 // 11: the sum of the sizes of a key's entries
-pub fn sum<W: Write>(output: &mut W, s: &[i64], text: &mut [u8], at: usize) -> usize
-    ensures { Placed result text.old text.new }
+pub fn sum(s: &[i64]) -> Option<i64>
+    ensures { IfSome result (λ x. x ≡ pos (sizes s.now)) }
 {
-    let mut small = [0i32; 1024];
-    let n = s.len();
-    if 1024 < n {
-        return print::refused(output, text, at);
-    }
-    if !guard::narrow(s, &mut small) {
-        return print::refused(output, text, at);
-    }
-    let sizes = sum_of_sizes(&small[0..n]);
-    if 9223372036854775807 < sizes {
-        return print::refused(output, text, at);
-    }
-    print::one(output, text, at, sizes as i64)
+    let mut small = [0i32; KEY];
+    i64::try_from(sum_of_sizes(key(s, &mut small)?)).ok()
 }
 
 // 12: <s,c>
-pub fn product<W: Write>(output: &mut W, s: &[i64], c: &[i64], text: &mut [u8], at: usize) -> usize
-    ensures { Placed result text.old text.new }
+#[tactic(auto, using(crate::specs::Guard::up_to))]
+pub fn product(s: &[i64], c: &[i64]) -> Option<i64>
+    ensures { IfSome result (λ x. x ≡ inner s.now c.now) }
 {
-    let mut small = [0i32; 1024];
-    let n = s.len();
-    if 1024 < n {
-        return print::refused(output, text, at);
+    let mut small = [0i32; KEY];
+    let s = key(s, &mut small)?;
+    if s.len() != c.len() || !guard::is_small(s) || !guard::all_up_to(ENTRY, c) {
+        return None;
     }
-    if !guard::narrow(s, &mut small) {
-        return print::refused(output, text, at);
-    }
-    product_of(output, &small[0..n], c, text, at)
-}
-
-fn product_of<W: Write>(output: &mut W, s: &[i32], c: &[i64], text: &mut [u8], at: usize) -> usize
-    requires { length s.now ≤ 1024 }
-    ensures { Placed result text.old text.new }
-{
-    if s.len() != c.len() {
-        return print::refused(output, text, at);
-    }
-    if !guard::is_small(s) {
-        return print::refused(output, text, at);
-    }
-    if !guard::all_up_to(ENTRY, c) {
-        return print::refused(output, text, at);
-    }
-    print::one(output, text, at, inner_product(s, c))
+    Some(inner_product(s, c))
 }
 
 // 13: <s,column j> of a table that lies row by row, of `width` columns
-pub fn column<W: Write>(
-    output: &mut W,
-    width: usize,
-    j: usize,
-    s: &[i64],
-    table: &[i64],
-    text: &mut [u8],
-    at: usize,
-) -> usize
-    ensures { Placed result text.old text.new }
+#[tactic(auto, using(crate::specs::Guard::up_to))]
+pub fn column(width: usize, j: usize, s: &[i64], table: &[i64]) -> Option<i64>
+    ensures { IfSome result (λ x. x ≡ inner s.now (column_of j (cut width (length s.now) table.now))) }
 {
-    let mut small = [0i32; 1024];
-    let n = s.len();
-    if 1024 < n {
-        return print::refused(output, text, at);
+    let mut small = [0i32; KEY];
+    let s = key(s, &mut small)?;
+    if width > 65536 || j >= width || table.len() != s.len() * width {
+        return None;
     }
-    if !guard::narrow(s, &mut small) {
-        return print::refused(output, text, at);
+    if !guard::is_small(s) || !guard::all_up_to(ENTRY, table) {
+        return None;
     }
-    column_of(output, width, j, &small[0..n], table, text, at)
+    Some(inner_column(s, table, width, j))
 }
 
-fn column_of<W: Write>(
-    output: &mut W,
-    width: usize,
-    j: usize,
-    s: &[i32],
-    table: &[i64],
-    text: &mut [u8],
-    at: usize,
-) -> usize
-    requires { length s.now ≤ 1024 }
-    ensures { Placed result text.old text.new }
+// A key's entries in 32 bits, where all of them have room there and they are no more than KEY.
+fn key<'a>(s: &[i64], small: &'a mut [i32; KEY]) -> Option<&'a [i32]>
+    ensures { IfSome result (λ k. (k.now ≡ s.now) × (length s.now ≤ 1024)) }
 {
-    if 65536 < width {
-        return print::refused(output, text, at);
+    if s.len() > KEY {
+        return None;
     }
-    if width <= j {
-        return print::refused(output, text, at);
+    let small = &mut small[..s.len()];
+    if !guard::narrow(s, small) {
+        return None;
     }
-    if table.len() != s.len() * width {
-        return print::refused(output, text, at);
-    }
-    if !guard::is_small(s) {
-        return print::refused(output, text, at);
-    }
-    if !guard::all_up_to(ENTRY, table) {
-        return print::refused(output, text, at);
-    }
-    print::one(output, text, at, inner_column(s, table, width, j))
+    Some(small)
 }

@@ -22,55 +22,107 @@
 // that is none of these is refused too, and has no operands. The program ends at the end of the input, and where an operand is missing or cannot be read.
 #![tactic(auto)]
 
-mod answer;
 mod case;
 mod guard;
 mod key;
 mod list;
-mod number;
 mod print;
 
+ghost use Rattle.scheme.specs.Loans.{Modulus};
+
+use Answer::{Number, Numbers};
+use case::Case;
+use guard::{count, is_up_to, modulus};
+use modular::big_residue::BigResidue;
+use modular::residue::Residue;
+use modular::round::round_quotient;
+use passes::range::{all_big_residues, all_residues, all_within};
 use std::io::{Read, Write};
+use stream::{Input, Output};
 
 // The most cases. A proved loop has to end, and nothing says that the input does.
 const MOST: usize = 65536;
 
-// Reads and answers the cases. Returns how many bytes of `text` are filled.
-fn run<R: Read, W: Write>(
-    input: &mut R,
-    output: &mut W,
-    block: &mut [u8],
-    left: &mut [i64],
-    right: &mut [i64],
-    text: &mut [u8],
-) -> usize {
-    let mut cursor = stream::start();
-    let mut at = 0;
-    for _ in 0..MOST {
-        let read = case::read(input, block, cursor, left, right);
-        if !read.whole {
-            return at;
-        }
-        cursor = read.cursor;
-        at = answer::answer(output, read, left, right, text, at);
+// The most entries of a first list, of a second one, and of a list that is made.
+const FIRST: usize = 4096;
+
+const SECOND: usize = 40960;
+
+const MADE: usize = 4096;
+
+// What a case answers: a number, or numbers.
+#[derive(Clone, Copy)]
+pub enum Answer<'a> {
+    Number(i64),
+    Numbers(&'a [i64]),
+}
+
+// What a case answers, and None where the function does not take its operands.
+fn answer_to<'a>(case: Case, made: &'a mut [i64; MADE]) -> Option<Answer<'a>> {
+    Some(match case {
+        Case::Residue { q, x } => Number(Residue::of(x, modulus(q)?).value()),
+        Case::BigResidue { q, x } => Number(BigResidue::of(x, modulus(q)?).big_value()),
+        Case::Rounded { q, a } => Number(rounded(modulus(q)?, a)?),
+        // the tensor of two lists of one entry
+        Case::TensorEntry { q, x, y } => Numbers(list::tensor(modulus(q)?, &[x], &[y], made)?),
+        Case::Tensor { q, c, d } => Numbers(list::tensor(modulus(q)?, c, d, made)?),
+        Case::Switched { q, t, row } => Number(list::switched(modulus(q)?, t, row)?),
+        Case::Switch { q, n, t, key } => Numbers(list::switch(
+            modulus(q)?,
+            count(n)?,
+            t,
+            key,
+            made,
+        )?),
+        Case::Residues { q, xs } => Number(i64::from(all_residues(xs, modulus(q)?))),
+        Case::BigResidues { q, xs } => Number(i64::from(all_big_residues(xs, modulus(q)?))),
+        // a limit is a number of 32 bits, from 0 up
+        Case::Within { limit, xs } => Number(i64::from(all_within(xs, u32::try_from(limit).ok()?))),
+        Case::Sum { s } => Number(key::sum(s)?),
+        Case::Product { s, c } => Number(key::product(s, c)?),
+        Case::Column { width, j, s, table } => Number(key::column(
+            count(width)?,
+            count(j)?,
+            s,
+            table,
+        )?),
+        Case::Unknown => return None,
+    })
+}
+
+// round(a/q), of an a of at most 2^62 in size
+#[tactic(auto, using(crate::specs::Guard::at_most))]
+fn rounded(q: u32, a: i64) -> Option<i64>
+    requires { Modulus q }
+{
+    if !is_up_to(4611686018427387904, a) {
+        return None;
     }
-    at
+    Some(round_quotient(a, q))
+}
+
+// Reads and answers the cases.
+fn run<R: Read, W: Write>(
+    input: &mut Input<R>,
+    output: &mut Output<W>,
+    first: &mut [i64; FIRST],
+    second: &mut [i64; SECOND],
+    made: &mut [i64; MADE],
+) {
+    for _ in 0..MOST {
+        let Some(case) = case::read(input, first, second) else {
+            return;
+        };
+        print::line(output, answer_to(case, made));
+    }
 }
 
 fn main(rt: HostRuntime) {
-    let mut input = rt.stdin();
-    let mut output = rt.stdout();
-    let mut block = [0u8; 4096];
-    let mut left = [0i64; 4096];
-    let mut right = [0i64; 40960];
-    let mut text = [0u8; 65536];
-    let at = run(
-        &mut input,
-        &mut output,
-        &mut block,
-        &mut left,
-        &mut right,
-        &mut text,
-    );
-    stream::flush(&mut output, &mut text, at);
+    let mut input = Input::new(rt.stdin());
+    let mut output = Output::new(rt.stdout());
+    let mut first = [0i64; FIRST];
+    let mut second = [0i64; SECOND];
+    let mut made = [0i64; MADE];
+    run(&mut input, &mut output, &mut first, &mut second, &mut made);
+    output.flush();
 }

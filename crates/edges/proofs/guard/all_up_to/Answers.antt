@@ -1,19 +1,18 @@
--- `guard::all_up_to` tests every entry. Leans on what `is_up_to` ensures. Assumes nothing.
-use Rattle.std.proofs.Common.{get_or, pos, refl, sym, arith, rules, SFits, w64, to_z-of_z}
+-- `guard::all_up_to`: `every` recurses as the library's `list_all` does. Assumes nothing.
+use Rattle.std.proofs.Common.{◌≡◌, ◌∙◌, refl, rules, tests, Bool, ℤ, List, ◌&&◌}
+use Rattle.std.specs.List.{list_all}
+use Rattle.std.proofs.lemmas.Iterator.{YieldsList-from_slice}
+use Rattle.std.proofs.lemmas.Iterator.Search.{all_from_yields_List}
+use Rattle.std.proofs.lemmas.List.Recursion.{same_from_clauses}
 use Rattle.whole.specs.Lists.{every}
-use Rattle.edges.specs.Guard.{is_up_to, every_more, every_less}
+use Rattle.edges.specs.Guard.{is_up_to}
 use Rattle.edges.proofs.guard.all_up_to.Goals as goal
 
-pub loop-i-init : goal.loop-i-init
+every_all : (p : ℤ → Bool) (xs : List ℤ) → list_all p xs ≡ every p xs
 unfolding every
-loop-i-init c = refl
+every_all p xs = same_from_clauses (list_all p) (every p) (λ x b. p x && b) refl (λ _ _. refl) (λ _ _. refl) xs
 
-pub returns-then-not-is_up_to : goal.returns-then-not-is_up_to
-returns-then-not-is_up_to c =
-    let f : SFits w64 (get_or c.args.xs.now c.loop-i.i (pos 0)) = search rules in
-    sym (every_less (is_up_to c.args.most) c.args.xs.now c.loop-i.i (omega arith) (sym (simp (to_z-of_z, f) at c.if-not-is_up_to.ensures)))
-
-pub loop-i-preserved : goal.loop-i-preserved
-loop-i-preserved c =
-    let f : SFits w64 (get_or c.args.xs.now c.loop-i.i (pos 0)) = search rules in
-    every_more (is_up_to c.args.most) c.args.xs.now c.loop-i.i (omega arith) c.loop-i.invariant (sym (simp (to_z-of_z, f) at c.if-not-is_up_to.ensures))
+pub returns : goal.returns
+returns c =
+    all_from_yields_List (is_up_to c.args.most) _ _ _ c.all.ensures.ran (YieldsList-from_slice c.args.xs.now cc) (λ x b q k. search (rules, tests))
+    ∙ every_all _ c.args.xs.now
