@@ -4,11 +4,9 @@ ghost use Rattle.std.specs.Prelude.{◌≤◌, ◌<◌, ◌≡◌, List, ℕ, []
 ghost use Rattle.stream.specs.Bounds.{CountIn};
 ghost use Rattle.stream.specs.White.{is_white as White·is_white, WhiteNext};
 
+use crate::BLOCK;
 use std::io::{Read, Result};
 use std::marker::Model;
-
-// The bytes of a block.
-const BLOCK: usize = 65536;
 
 // The most bytes of white space that are passed over before a number. A number has fewer digits
 // than this. A proved loop has to end, and nothing says that the input does.

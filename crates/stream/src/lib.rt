@@ -7,3 +7,6 @@ mod output;
 
 pub use input::Input;
 pub use output::{Output, decimal};
+
+// The bytes of a block.
+const BLOCK: usize = 65536;
