@@ -1,4 +1,7 @@
 // The calls of docs/REPLAY.md, by their numbers there.
+ghost use Rattle.std.specs.Prelude.{◌≡◌, pos, ◌≤ℤ◌, MatchResult};
+ghost use Rattle.calls.specs.Kind.{number_of};
+
 // A call of the engine.
 #[derive(Clone, Copy)]
 pub enum Kind {
@@ -28,6 +31,8 @@ pub struct NoCall;
 
 impl TryFrom<i64> for Kind {
     type Error = NoCall;
+
+    ghost try_from_gives = { λ n r. MatchResult r (λ k. n ≡ pos (number_of k)) (λ _. ¬ ((pos 1 ≤ℤ n) × (n ≤ℤ pos 18))) };
 
     fn try_from(number: i64) -> Result<Kind, NoCall> {
         match number {

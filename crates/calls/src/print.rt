@@ -1,4 +1,6 @@
 // Printing what a call answered and what it left in the buffers that it may write.
+ghost use Rattle.calls.specs.Print.{PutAs};
+
 use circuitfile::Printed;
 use refusal::{Made, Params, Refusal};
 use scheme::{Bounded, Decrypted};
@@ -6,7 +8,9 @@ use std::io::Write;
 use stream::Output;
 
 // Puts the entries of a buffer.
-pub fn entries<W: Write, T: Copy + Into<i64>>(output: &mut Output<W>, xs: &[T]) {
+pub fn entries<W: Write, T: Copy + Into<i64>>(output: &mut Output<W>, xs: &[T])
+    ensures { PutAs T.converts xs.now output.old output.new }
+{
     for x in xs {
         output.number((*x).into());
     }
