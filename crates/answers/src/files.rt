@@ -1,4 +1,6 @@
 // The calls on circuit files. Each takes what the call lends, does it and puts its answer, and what it left in a buffer.
+ghost use Rattle.std.specs.Prelude.{◌<◌, length};
+
 use calls::lent::Lent;
 use calls::print;
 use calls::read::{FILE, TEXT};
@@ -6,14 +8,20 @@ use std::io::Write;
 use stream::Output;
 
 // Call 14: a file.
-pub fn check<W: Write>(mut call: Lent<'_>, output: &mut Output<W>) {
+#[tactic(auto, using(calls::specs::Print::put_word_holds))]
+pub fn check<W: Write>(mut call: Lent<'_>, output: &mut Output<W>)
+    ensures { 0 < length output.new }
+{
     let mut file = [0u8; FILE];
     let n = call.fill(&mut file);
     output.unsigned(gatfile::plan::check(&file[..n]));
 }
 
 // Call 15: a file, and its bounds as found.
-pub fn plan<W: Write>(mut call: Lent<'_>, output: &mut Output<W>) {
+#[tactic(auto, using(calls::specs::Print::put_word_holds))]
+pub fn plan<W: Write>(mut call: Lent<'_>, output: &mut Output<W>)
+    ensures { 0 < length output.new }
+{
     let mut file = [0u8; FILE];
     let mut bounds = [0u8; FILE];
     let n = call.fill(&mut file);
@@ -24,12 +32,14 @@ pub fn plan<W: Write>(mut call: Lent<'_>, output: &mut Output<W>) {
 }
 
 // Call 16: a file, and the buffer of its text as found.
-pub fn print<W: Write>(mut call: Lent<'_>, output: &mut Output<W>) {
+pub fn print<W: Write>(mut call: Lent<'_>, output: &mut Output<W>)
+    ensures { 0 < length output.new }
+{
     let mut file = [0u8; FILE];
     let mut out = [0u8; TEXT];
     let n = call.fill(&mut file);
     let len = call.fill(&mut out);
     let out = &mut out[..len];
-    print::printed(output, text::text(&file[..n], out));
+    print::value(output, text::text(&file[..n], out).map(|n| n as u64));
     print::entries(output, out);
 }

@@ -1,74 +1,65 @@
 // Printing what a call answered and what it left in the buffers that it may write.
-ghost use Rattle.calls.specs.Print.{PutAs};
+ghost use Rattle.std.specs.Prelude.{◌≡◌, ◌+◌, ◌<◌, pos, length};
+ghost use Rattle.std.specs.List.{flat_map};
+ghost use Rattle.std.specs.Result.{result_unwrap_or};
+ghost use Rattle.refusal.specs.Answer.{answer_to};
+ghost use Rattle.calls.specs.Print.{PutAs, put_word, put_answer, five_of};
 
-use circuitfile::Printed;
-use refusal::{Made, Params, Refusal};
-use scheme::{Bounded, Decrypted};
+use refusal::{Params, Refusal};
 use std::io::Write;
 use stream::Output;
 
 // Puts the entries of a buffer.
 pub fn entries<W: Write, T: Copy + Into<i64>>(output: &mut Output<W>, xs: &[T])
-    ensures { PutAs T.converts xs.now output.old output.new }
+    ensures put { PutAs T.converts xs.now output.old output.new }
+    ensures holds { 0 < length output.old + length xs.now → 0 < length output.new }
 {
     for x in xs {
         output.number((*x).into());
     }
 }
 
-// Puts a number and its place.
-pub fn refusal<W: Write>(output: &mut Output<W>, r: Refusal) {
-    output.unsigned(r.number.into());
-    output.unsigned(r.place);
-}
-
-// Puts a number, its place and a bound.
-pub fn bounded<W: Write>(output: &mut Output<W>, r: Bounded) {
-    output.unsigned(r.number.into());
-    output.unsigned(r.place);
-    output.unsigned(r.bound.into());
-}
-
-// Puts a number, its place and a bit.
-pub fn decrypted<W: Write>(output: &mut Output<W>, r: Decrypted) {
-    output.unsigned(r.number.into());
-    output.unsigned(r.place);
-    output.unsigned(r.bit.into());
-}
-
-// Puts a number, its place and a text's length.
-pub fn printed<W: Write>(output: &mut Output<W>, r: Printed) {
-    output.unsigned(r.number.into());
-    output.unsigned(r.place);
-    output.unsigned(r.bytes as u64);
-}
-
-// Puts a number, its place and a parameter set, which is all zeros on a refusal.
-pub fn made<W: Write>(output: &mut Output<W>, m: Made) {
-    let (r, p) = match m {
-        Made::Set(p) => (
-            Refusal {
-                number: 0,
-                place: 0,
-            },
-            p,
-        ),
-        Made::Refused(r) => (
-            r,
-            Params {
-                n: 0,
-                q: 0,
-                l: 0,
-                e: 0,
-                f: 0,
-            },
-        ),
+// Puts the number and the place of what a call answers, both 0 where it is done.
+#[tactic(auto, using(crate::specs::Print::put_word_holds))]
+pub fn answer<W: Write, T>(output: &mut Output<W>, r: &Result<T, Refusal>)
+    ensures put { output.new ≡ put_answer (answer_to r.now) output.old }
+    ensures holds { 0 < length output.new }
+{
+    let (number, place) = match r {
+        Ok(_) => (0, 0),
+        Err(refusal) => (refusal.number(), refusal.place()),
     };
-    refusal(output, r);
-    entries(output, &[p.n, p.q, p.l, p.e, p.f]);
+    output.unsigned(u64::from(number));
+    output.unsigned(place);
+}
+
+// Puts the number and the place, and then what else is answered: a bound, a bit or a text's length, which is 0 on a refusal.
+#[tactic(auto, using(crate::specs::Print::put_word_holds))]
+pub fn value<W: Write>(output: &mut Output<W>, r: Result<u64, Refusal>)
+    ensures put { output.new ≡ put_word (result_unwrap_or r 0) (put_answer (answer_to r) output.old) }
+    ensures holds { 0 < length output.new }
+{
+    answer(output, &r);
+    output.unsigned(r.unwrap_or(0));
+}
+
+// Puts the number and the place, and then a parameter set, which is all zeros on a refusal.
+pub fn made<W: Write>(output: &mut Output<W>, r: Result<Params, Refusal>)
+    ensures put { PutAs (λ x y. y ≡ pos x) (five_of r) (put_answer (answer_to r) output.old) output.new }
+    ensures holds { 0 < length output.new }
+{
+    answer(output, &r);
+    let five = match r {
+        Ok(p) => [p.n, p.q, p.l, p.e, p.f],
+        Err(_) => [0; 5],
+    };
+    entries(output, &five);
 }
 
 // Puts the four rows of a bench key.
-pub fn rows<W: Write>(output: &mut Output<W>, key: [[i64; 16]; 4]) {
+pub fn rows<W: Write>(output: &mut Output<W>, key: [[i64; 16]; 4])
+    ensures put { PutAs (λ x y. y ≡ x) (flat_map (λ row. row) key) output.old output.new }
+    ensures holds { 0 < length output.new }
+{
     entries(output, key.as_flattened());
 }

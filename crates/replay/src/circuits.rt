@@ -1,5 +1,6 @@
 // The calls on circuits. Each takes what the call lends, does it and puts its answer, and what it left in its buffers.
-ghost use Rattle.std.specs.Prelude.{◌≡◌, length};
+ghost use Rattle.std.specs.Prelude.{◌≡◌, ◌<◌, length};
+ghost use Rattle.refusal.specs.Answer.{answer_to};
 ghost use Rattle.circuit.specs.Plan.{plan_loans, PlanPromise};
 ghost use Rattle.circuit.specs.Evaluate.{evaluate_loans, EvaluatePromise};
 ghost use Rattle.replay.specs.Lent.{circuit_of};
@@ -29,8 +30,8 @@ enum Circuit<'a> {
 
 impl Circuit<'_> {
     // Plans.
-    fn plan(self, p: Params, inputs: u32, bounds: &mut [u32]) -> Refusal
-        ensures { PlanPromise (plan_loans p inputs (circuit_of self.entry) bounds.old) result bounds.new }
+    fn plan(self, p: Params, inputs: u32, bounds: &mut [u32]) -> Result<(), Refusal>
+        ensures { PlanPromise (plan_loans p inputs (circuit_of self.entry) bounds.old) (answer_to result) bounds.new }
     {
         match self {
             Circuit::Lists(lists) => planning::plan(p, inputs, &lists, bounds),
@@ -47,8 +48,8 @@ impl Circuit<'_> {
         bounds: &mut [u32],
         key: &[i64],
         scratch: &mut [i64],
-    ) -> Refusal
-        ensures { EvaluatePromise (evaluate_loans (plan_loans p inputs (circuit_of self.entry) bounds.old) wires.old key.now scratch.old) result wires.new bounds.new scratch.new }
+    ) -> Result<(), Refusal>
+        ensures { EvaluatePromise (evaluate_loans (plan_loans p inputs (circuit_of self.entry) bounds.old) wires.old key.now scratch.old) (answer_to result) wires.new bounds.new scratch.new }
     {
         match self {
             Circuit::Lists(lists) => {
@@ -107,7 +108,9 @@ impl Room {
 }
 
 // Calls 12 and 17: a parameter set, the number of inputs, the gates, and the bounds as found.
-pub fn plan<W: Write>(form: Form, mut call: Lent<'_>, output: &mut Output<W>) {
+pub fn plan<W: Write>(form: Form, mut call: Lent<'_>, output: &mut Output<W>)
+    ensures { 0 < length output.new }
+{
     let mut room = Room::new();
     let mut bounds = [0u32; WIRES];
     let p = call.params();
@@ -115,14 +118,15 @@ pub fn plan<W: Write>(form: Form, mut call: Lent<'_>, output: &mut Output<W>) {
     let circuit = room.circuit(form, &mut call);
     let b = call.fill(&mut bounds);
     let bounds = &mut bounds[..b];
-    print::refusal(output, circuit.plan(p, inputs, bounds));
+    print::answer(output, &circuit.plan(p, inputs, bounds));
     print::entries(output, bounds);
 }
 
 // Calls 13 and 18: as calls 12 and 17, with the wires as found before the bounds, and a switching key
 // and scratch after them. The wires stand in a buffer that is lent.
 pub fn evaluate<W: Write>(form: Form, mut call: Lent<'_>, output: &mut Output<W>, wires: &mut [i64])
-    ensures { length wires.new ≡ length wires.old }
+    ensures holds { 0 < length output.new }
+    ensures wires_len_unchanged { length wires.new ≡ length wires.old }
 {
     let mut room = Room::new();
     let mut bounds = [0u32; WIRES];
@@ -137,10 +141,8 @@ pub fn evaluate<W: Write>(form: Form, mut call: Lent<'_>, output: &mut Output<W>
     let wires = &mut wires[..n];
     let bounds = &mut bounds[..b];
     let scratch = &mut scratch[..s];
-    print::refusal(
-        output,
-        circuit.evaluate(p, inputs, wires, bounds, key, scratch),
-    );
+    let answer = circuit.evaluate(p, inputs, wires, bounds, key, scratch);
+    print::answer(output, &answer);
     print::entries(output, wires);
     print::entries(output, bounds);
     print::entries(output, scratch);
