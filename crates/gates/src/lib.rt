@@ -10,7 +10,6 @@ ghost use Rattle.gates.specs.Ready.{XorIntoReady, NotIntoReady, AndIntoReady};
 use bound::and_bound;
 use keys::tests::{is_outside, is_outside_big, is_over, length_differs};
 use modular::residue::Residue;
-use passes::buffer::{copy, zero};
 use refusal::{Params, Refusal, refuse_if};
 use switch::fill_switch;
 use tensor::fill_tensor;
@@ -30,7 +29,7 @@ pub fn not_into(q: u32, c: &[i64], out: &mut [i64])
     requires { NotIntoReady q c.now out.old }
     ensures { out.new ≡ NOT q c.now }
 {
-    copy(c, out);
+    out.copy_from_slice(c);
     let half = (q as i64) / 2;
     out[0] = Residue::near(c[0] + half, q).value();
 }
@@ -153,6 +152,6 @@ pub fn and(
 {
     let bound = check_and(p, c, b1, d, b2, key, scratch, out)?;
     and_into(p.q, c, d, key, scratch, out);
-    zero(scratch);
+    scratch.fill(0);
     Ok(bound)
 }

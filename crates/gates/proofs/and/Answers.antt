@@ -22,4 +22,4 @@ returns c =
     let r = and_ready lent (and_passed lent c.check_and.ensures c.in_ok-bound.was) in
     and_done lent c.check_and.ensures c.in_ok-bound.was refl
     (rw r.room at c.and_into.ensures.out_after)
-    (c.zero.ensures ∙ rw (c.and_into.ensures.scratch_after, length_tensor, r.into.left_long, r.into.right_long, r.room))
+    (c.fill.ensures.after (λ y e. e) ∙ rw (c.and_into.ensures.scratch_after, length_tensor, r.into.left_long, r.into.right_long, r.room))

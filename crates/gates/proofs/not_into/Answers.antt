@@ -48,9 +48,9 @@ returns c =
     let d = c.args.c.now in
     let m = c.requires.modulus in
     let read : SFits w64 c.value.result = search rules in
-    ap (set c.copy.new.out 0)
+    ap (set c.copy_from_slice.new.self 0)
     (to_z-of_z read
     ∙ c.value.ensures
     ∙ (rw (modulus_is m) at c.near.ensures)
     ∙ ap (centred q) (sum_is (get_or d 0 (pos 0)) (half q) m (first_size q d c.requires.inside (omega arith)) (omega arith)))
-    ∙ rw c.copy.ensures (not_set q d (omega arith))
+    ∙ rw c.copy_from_slice.ensures.after (not_set q d (omega arith))
