@@ -3,6 +3,7 @@
 #![tactic(auto)]
 
 ghost use Rattle.std.specs.Prelude.{◌≡◌};
+ghost use Rattle.refusal.specs.Answer.{answer_to};
 ghost use Rattle.refusal.specs.Parameters.{sheet};
 ghost use Rattle.scheme.specs.Calls.{BenchCheckPromise, BenchKeyPromise};
 
@@ -23,9 +24,9 @@ fn bench_sheet() -> Params
     }
 }
 
-// The number that the bench key maker meets on the same loans: 0 when the key is made. Refusals 3, 4, 6, 7.
-pub fn check_bench_key(s: &[i32], masks: &[i64], errors: &[i64]) -> Refusal
-    ensures { BenchCheckPromise s.now masks.now errors.now result }
+// Why the bench key maker refuses the same loans: 3, 4, 6, 7.
+pub fn check_bench_key(s: &[i32], masks: &[i64], errors: &[i64]) -> Result<(), Refusal>
+    ensures { BenchCheckPromise s.now masks.now errors.now (answer_to result) }
 {
     let mut room = [0i64; 64];
     make_switching_key(bench_sheet(), s, masks, errors, &mut room)
@@ -36,7 +37,8 @@ pub fn make_bench_key(s: &[i32], masks: &[i64], errors: &[i64]) -> [[i64; 16]; 4
     ensures { BenchKeyPromise s.now masks.now errors.now result }
 {
     let mut key = [0i64; 64];
-    make_switching_key(bench_sheet(), s, masks, errors, &mut key);
+    // A refused key is the zeros that it finds.
+    let _ = make_switching_key(bench_sheet(), s, masks, errors, &mut key);
     let (rows, _) = key.as_chunks::<16>();
     [rows[0], rows[1], rows[2], rows[3]]
 }

@@ -7,9 +7,8 @@ use Rattle.whole.specs.Machine.{fits64}
 use Rattle.refusal.specs.declared.Params.{Params}
 use Rattle.refusal.specs.Parameters.{InRange}
 use Rattle.refusal.specs.declared.Refusal.{Refusal}
-use Rattle.refusal.specs.Answer.{Answer}
-use Rattle.refusal.specs.First.{Row, first_of, done_or_done}
-use Rattle.refusal.proofs.Given.{Gives, given, Refused, refused_by, refused_kept}
+use Rattle.refusal.specs.First.{Row, first_of, place_of, done_or_done}
+use Rattle.refusal.proofs.Given.{Gives, given, Refused, refused_by, done_by, placed_by, refused_kept}
 use Rattle.scheme.specs.Calls.{Bounded, differs, bounded, decrypted, bounded_of, decrypted_of, states, decrypts_to}
 use Rattle.scheme.specs.Passed.{length_is}
 pub use Rattle.scheme.specs.Passed.{params_tested, answered_range}
@@ -27,23 +26,28 @@ or_same e f = rw (e, f)
 
 -- ---- refused, and done: what a function answers that comes to its refusal row by row, and beside it states a bound or a bit
 
+module _ {rows : List Row} {r : Result ℕ Refusal} {e : Refusal} where
+  pub bounded_err : (B : ℕ) → Refused rows e → r ≡ Err e → bounded_of r ≡ bounded rows B
+  bounded_err B f h = ap bounded_of h ∙ rw (f.number, f.place, ← refused_kept f B 0) refl
+
+  pub decrypted_err : (b : ℕ) → Refused rows e → r ≡ Err e → decrypted_of r ≡ decrypted rows b
+  decrypted_err b f h = ap decrypted_of h ∙ rw (f.number, f.place, ← refused_kept f b 0) refl
+
+module _ (rows : List Row) {x : ℕ} where
+  pub bounded_ok : {B : ℕ} → first_of rows ≡ 0 → place_of rows ≡ 0 → x ≡ B → states x ≡ bounded rows B
+  bounded_ok {B} o at e = rw (e, o, at) (ap states (sym (done_or_done B 0 refl)))
+
+  pub decrypted_ok : {b : ℕ} → first_of rows ≡ 0 → place_of rows ≡ 0 → x ≡ b → decrypts_to x ≡ decrypted rows b
+  decrypted_ok {b} o at e = rw (e, o, at) (ap decrypts_to (sym (done_or_done b 0 refl)))
+
 module _ {rows : List Row} {r : Result ℕ Refusal} where
   pub bounded_refused : {e : Refusal} (B : ℕ) → Gives rows r → r ≡ Err e → bounded_of r ≡ bounded rows B
-  bounded_refused B g h =
-      let f = refused_by rows (given rows g) h in
-      ap bounded_of h ∙ rw (f.number, f.place, ← refused_kept f B 0) refl
+  bounded_refused B g h = bounded_err B (refused_by rows (given rows g) h) h
 
-  pub decrypted_refused : {e : Refusal} (b : ℕ) → Gives rows r → r ≡ Err e → decrypted_of r ≡ decrypted rows b
-  decrypted_refused b g h =
-      let f = refused_by rows (given rows g) h in
-      ap decrypted_of h ∙ rw (f.number, f.place, ← refused_kept f b 0) refl
-
-module _ {rows : List Row} {x : ℕ} where
-  pub bounded_done : {B : ℕ} → Gives rows (Ok x) → x ≡ B → states x ≡ bounded rows B
-  bounded_done {B} g e = let a = given rows g in rw (e, ← ap (λ (y : Answer). y.number) a, ← ap (λ (y : Answer). y.place) a) (ap states (sym (done_or_done B 0 refl)))
-
-  pub decrypted_done : {b : ℕ} → Gives rows (Ok x) → x ≡ b → decrypts_to x ≡ decrypted rows b
-  decrypted_done {b} g e = let a = given rows g in rw (e, ← ap (λ (y : Answer). y.number) a, ← ap (λ (y : Answer). y.place) a) (ap decrypts_to (sym (done_or_done b 0 refl)))
+pub bounded_done : {rows : List Row} {x B : ℕ} → Gives rows (Ok x) → x ≡ B → states x ≡ bounded rows B
+bounded_done {rows} {x} g e =
+    let same : Ok x ≡ Ok x = refl in
+    bounded_ok rows (done_by rows (given rows g) same) (placed_by rows (given rows g) same) e
 
 -- the caller of such a function f has its answer: and where it is a bound, no row applies
 pub bound_stated : (rows : List Row) (B : ℕ) {x : ℕ} {f : Result ℕ Refusal} → bounded_of f ≡ bounded rows B → f ≡ Ok x → first_of rows ≡ 0

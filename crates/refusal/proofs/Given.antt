@@ -89,6 +89,9 @@ refused_by rows told h =
 pub done_by : {A : Type 0} (rows : List Row) {x : Result A Refusal} {a : A} → answer_to x ≡ answer_of rows → x ≡ Ok a → first_of rows ≡ 0
 done_by rows told h = sym (ap (λ (a : Answer). a.number) (sym (ap answer_to h) ∙ told))
 
+pub placed_by : {A : Type 0} (rows : List Row) {x : Result A Refusal} {a : A} → answer_to x ≡ answer_of rows → x ≡ Ok a → place_of rows ≡ 0
+placed_by rows told h = sym (ap (λ (a : Answer). a.place) (sym (ap answer_to h) ∙ told))
+
 module _ {rows : List Row} {e : Refusal} (r : Refused rows e) where
   pub refused_number : first_of rows ≢ 0
   refused_number z = absurd (omega (arith, refusal_numbered e, r.number, z))

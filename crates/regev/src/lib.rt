@@ -5,9 +5,10 @@
 ghost use Rattle.std.specs.Prelude.{◌≡◌, true, cond, ◌+◌, ◌*◌, ◌≤◌, ltb, nat_abs, length};
 ghost use Rattle.whole.specs.Lists.{every};
 ghost use Rattle.whole.specs.Inner.{sizes};
-ghost use Rattle.refusal.specs.First.{first_of};
+ghost use Rattle.refusal.specs.Answer.{answer_to};
+ghost use Rattle.refusal.specs.First.{answer_of};
 ghost use Rattle.scheme.specs.Arithmetic.{is_residue, encrypt, decrypt};
-ghost use Rattle.scheme.specs.Calls.{encrypt_loans, encrypt_rows, EncryptPromise, decrypt_loans, decrypt_rows, DecryptPromise};
+ghost use Rattle.scheme.specs.Calls.{bounded_of, decrypted_of, encrypt_loans, encrypt_rows, EncryptPromise, decrypt_loans, decrypt_rows, DecryptPromise};
 ghost use Rattle.scheme.specs.Loans.{Modulus};
 ghost use Rattle.regev.specs.Ready.{EncryptIntoReady};
 
@@ -15,27 +16,29 @@ use keys::tests::{is_bad_bit, is_bad_key, is_exceeding, is_outside, length_diffe
 use modular::residue::Residue;
 use passes::buffer::copy;
 use passes::key::inner_product;
-use refusal::Params;
-use scheme::{Bounded, Decrypted};
+use refusal::{Params, Refusal, refuse_if};
 
-// The number for an encryption into `out`: 1, 3, 4, 5, 6, 7 or 0.
-fn encrypt_number(p: Params, s: &[i32], bit: u32, mask: &[i64], error: i64, out: &[i64]) -> u32
-    ensures { result ≡ first_of (encrypt_rows (encrypt_loans p s.now bit mask.now error out.now)) }
+// Why an encryption into `out` is refused: 1, 3, 4, 5, 6, 7.
+fn check_encrypt(
+    p: Params,
+    s: &[i32],
+    bit: u32,
+    mask: &[i64],
+    error: i64,
+    out: &[i64],
+) -> Result<(), Refusal>
+    ensures { answer_to result ≡ answer_of (encrypt_rows (encrypt_loans p s.now bit mask.now error out.now)) }
 {
-    if !p.in_range() {
-        return 1;
-    }
+    refuse_if(!p.in_range(), Refusal::Parameters)?;
     let n = p.n as usize;
-    if length_differs(s.len(), n)
+    let is_wrong = length_differs(s.len(), n)
         | length_differs(mask.len(), n - 1)
-        | length_differs(out.len(), n)
-    {
-        return 3;
-    }
-    let seven = refusal::row(7, is_exceeding(p.e, &[error]), 0);
-    let six = refusal::row(6, is_outside(p.q, mask), seven);
-    let five = refusal::row(5, is_bad_bit(bit), six);
-    refusal::row(4, is_bad_key(p.l, s), five)
+        | length_differs(out.len(), n);
+    refuse_if(is_wrong, Refusal::Length)?;
+    refuse_if(is_bad_key(p.l, s), Refusal::Key)?;
+    refuse_if(is_bad_bit(bit), Refusal::Bit)?;
+    refuse_if(is_outside(p.q, mask), Refusal::Entry)?;
+    refuse_if(is_exceeding(p.e, &[error]), Refusal::Error)
 }
 
 // Entry 0 of the encryption, and then the mask.
@@ -50,38 +53,33 @@ fn encrypt_into(q: u32, s: &[i32], bit: u32, mask: &[i64], error: i64, out: &mut
 }
 
 // Encrypts a bit with a lent mask and error into `out`, and answers the stated bound E. Refusals 1, 3, 4, 5, 6, 7.
-pub fn encrypt(p: Params, s: &[i32], bit: u32, mask: &[i64], error: i64, out: &mut [i64]) -> Bounded
-    ensures { EncryptPromise (encrypt_loans p s.now bit mask.now error out.old) result out.new }
+pub fn encrypt(
+    p: Params,
+    s: &[i32],
+    bit: u32,
+    mask: &[i64],
+    error: i64,
+    out: &mut [i64],
+) -> Result<u32, Refusal>
+    ensures { EncryptPromise (encrypt_loans p s.now bit mask.now error out.old) (bounded_of result) out.new }
 {
-    let number = encrypt_number(p, s, bit, mask, error, out);
-    if number != 0 {
-        return Bounded {
-            number,
-            place: 0,
-            bound: 0,
-        };
-    }
+    check_encrypt(p, s, bit, mask, error, out)?;
     encrypt_into(p.q, s, bit, mask, error, out);
-    Bounded {
-        number: 0,
-        place: 0,
-        bound: p.e,
-    }
+    Ok(p.e)
 }
 
-// The number for a decryption: 1, 3, 4, 6 or 0.
-fn decrypt_number(p: Params, s: &[i32], c: &[i64]) -> u32
-    ensures { result ≡ first_of (decrypt_rows (decrypt_loans p s.now c.now)) }
+// Why a decryption is refused: 1, 3, 4, 6.
+fn check_decrypt(p: Params, s: &[i32], c: &[i64]) -> Result<(), Refusal>
+    ensures { answer_to result ≡ answer_of (decrypt_rows (decrypt_loans p s.now c.now)) }
 {
-    if !p.in_range() {
-        return 1;
-    }
+    refuse_if(!p.in_range(), Refusal::Parameters)?;
     let n = p.n as usize;
-    if length_differs(s.len(), n) | length_differs(c.len(), n) {
-        return 3;
-    }
-    let six = refusal::row(6, is_outside(p.q, c), 0);
-    refusal::row(4, is_bad_key(p.l, s), six)
+    refuse_if(
+        length_differs(s.len(), n) | length_differs(c.len(), n),
+        Refusal::Length,
+    )?;
+    refuse_if(is_bad_key(p.l, s), Refusal::Key)?;
+    refuse_if(is_outside(p.q, c), Refusal::Entry)
 }
 
 // 1 if d is more than q/4 in size, else 0.
@@ -109,20 +107,9 @@ fn decrypt_bit(q: u32, s: &[i32], c: &[i64]) -> u32
 }
 
 // Decrypts a ciphertext, and answers the bit. Refusals 1, 3, 4, 6.
-pub fn decrypt(p: Params, s: &[i32], c: &[i64]) -> Decrypted
-    ensures { DecryptPromise (decrypt_loans p s.now c.now) result }
+pub fn decrypt(p: Params, s: &[i32], c: &[i64]) -> Result<u32, Refusal>
+    ensures { DecryptPromise (decrypt_loans p s.now c.now) (decrypted_of result) }
 {
-    let number = decrypt_number(p, s, c);
-    if number != 0 {
-        return Decrypted {
-            number,
-            place: 0,
-            bit: 0,
-        };
-    }
-    Decrypted {
-        number: 0,
-        place: 0,
-        bit: decrypt_bit(p.q, s, c),
-    }
+    check_decrypt(p, s, c)?;
+    Ok(decrypt_bit(p.q, s, c))
 }

@@ -1,26 +1,18 @@
--- How the maker of a switching key ends: refused, where the number n that was worked out is not 0, with all as found; and done, where it is 0, with the key.
-use Rattle.std.proofs.Common.{◌≡◌, ◌≢◌, List, ℕ, ℤ, refl, sym, ◌∙◌}
-use Rattle.refusal.specs.First.{refused, first_of}
+-- How the maker of a switching key ends: refused with all as found, and done with the key.
+use Rattle.std.proofs.Common.{◌≡◌, List, ℤ, ap, ◌∙◌, Result, Ok, Err, sym}
+use Rattle.refusal.specs.declared.Refusal.{Refusal}
+use Rattle.refusal.specs.Answer.{answer_to}
+use Rattle.refusal.specs.First.{answer_of}
+use Rattle.refusal.proofs.Given.{refused_by, done_by, refused_kept, done_written}
 use Rattle.scheme.specs.Arithmetic.{switching_key}
 use Rattle.scheme.specs.Calls.{MakeKeyLoans, make_key_rows, make_key_answer, make_key_result, MakeKeyPromise}
-use Rattle.scheme.specs.Foremost.{make_key_place}
-use Rattle.keys.specs.Chain.{answer_given, refused_kept, done_written}
 
-module _ (a : MakeKeyLoans) where
-  left : {n : ℕ} → n ≡ first_of (make_key_rows a) → n ≢ 0 → a.result ≡ make_key_result a
-  unfolding make_key_result
-  left e h = refused_kept _ _ e h
+-- its check answered x, and it answers r
+module _ (a : MakeKeyLoans) {x : Result (Unit {0}) Refusal} (told : answer_to x ≡ answer_of (make_key_rows a)) where
+  pub make_key_refused : {r : Result (Unit {0}) Refusal} {e : Refusal} → x ≡ Err e → r ≡ Err e → MakeKeyPromise a (answer_to r) a.result
+  unfolding make_key_answer make_key_result
+  make_key_refused h g = record { answer = ap answer_to (g ∙ sym h) ∙ told; result_left = refused_kept (refused_by (make_key_rows a) told h) _ _ }
 
-  written : first_of (make_key_rows a) ≡ 0 → switching_key a.p.n a.p.q a.key a.masks a.errors ≡ make_key_result a
-  unfolding make_key_result
-  written z = done_written _ _ z refl
-
-  pub make_key_refused : {n : ℕ} → n ≡ first_of (make_key_rows a) → n ≢ 0 → MakeKeyPromise a (refused n 0) a.result
-  unfolding make_key_answer
-  make_key_refused e h = record { answer = answer_given (make_key_rows a) (make_key_place a) e; result_left = left e h }
-
-  pub make_key_done : {result : List ℤ} → first_of (make_key_rows a) ≡ 0
-      → result ≡ switching_key a.p.n a.p.q a.key a.masks a.errors
-      → MakeKeyPromise a (refused 0 0) result
-  unfolding make_key_answer
-  make_key_done z w = record { answer = answer_given (make_key_rows a) (make_key_place a) (sym z); result_left = w ∙ written z }
+  pub make_key_done : {result : List ℤ} → x ≡ Ok (tt {0}) → result ≡ switching_key a.p.n a.p.q a.key a.masks a.errors → MakeKeyPromise a (answer_to (Ok (tt {0}))) result
+  unfolding make_key_answer make_key_result
+  make_key_done h w = record { answer = ap answer_to (sym h) ∙ told; result_left = done_written _ _ (done_by (make_key_rows a) told h) w }

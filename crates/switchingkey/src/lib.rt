@@ -6,7 +6,8 @@ ghost use Rattle.std.specs.Prelude.{◌≡◌, ◌*◌, ◌/◌, ◌%◌, pos, �
 ghost use Rattle.whole.specs.Centred.{centred};
 ghost use Rattle.whole.specs.Inner.{inner};
 ghost use Rattle.whole.specs.Lists.{tabulate};
-ghost use Rattle.refusal.specs.First.{first_of};
+ghost use Rattle.refusal.specs.Answer.{answer_to};
+ghost use Rattle.refusal.specs.First.{answer_of};
 ghost use Rattle.scheme.specs.Arithmetic.{mask_column, row_zero_entry};
 ghost use Rattle.scheme.specs.Calls.{make_key_loans, make_key_rows, MakeKeyPromise};
 ghost use Rattle.switchingkey.specs.Ready.{RowZeroEntryReady, FillRowZeroReady};
@@ -15,7 +16,7 @@ use keys::tests::{is_bad_key, is_exceeding, is_outside_big, length_differs};
 use modular::big_residue::BigResidue;
 use passes::buffer::copy;
 use passes::key::inner_column;
-use refusal::{Params, Refusal};
+use refusal::{Params, Refusal, refuse_if};
 
 // Row 0, column j of a switching key: [q·su·sv - <s',mask column j> + fj]Q for j = u·n+v.
 fn row_zero_entry(q: u32, s: &[i32], masks: &[i64], error: i64, j: usize) -> BigResidue
@@ -37,25 +38,27 @@ fn fill_row_zero(q: u32, s: &[i32], masks: &[i64], errors: &[i64], out: &mut [i6
     }
 }
 
-// The number for a switching key into `out`: 1, 3, 4, 6, 7 or 0.
-fn make_key_number(p: Params, s: &[i32], masks: &[i64], errors: &[i64], out: &[i64]) -> u32
-    ensures { result ≡ first_of (make_key_rows (make_key_loans p s.now masks.now errors.now out.now)) }
+// Why a switching key into `out` is refused: 1, 3, 4, 6, 7.
+fn check_make_key(
+    p: Params,
+    s: &[i32],
+    masks: &[i64],
+    errors: &[i64],
+    out: &[i64],
+) -> Result<(), Refusal>
+    ensures { answer_to result ≡ answer_of (make_key_rows (make_key_loans p s.now masks.now errors.now out.now)) }
 {
-    if !p.in_range() {
-        return 1;
-    }
+    refuse_if(!p.in_range(), Refusal::Parameters)?;
     let n = p.n as usize;
     let square = n * n;
-    if length_differs(s.len(), n)
+    let is_wrong = length_differs(s.len(), n)
         | length_differs(masks.len(), (n - 1) * square)
         | length_differs(errors.len(), square)
-        | length_differs(out.len(), n * square)
-    {
-        return 3;
-    }
-    let seven = refusal::row(7, is_exceeding(p.f, errors), 0);
-    let six = refusal::row(6, is_outside_big(p.q, masks), seven);
-    refusal::row(4, is_bad_key(p.l, s), six)
+        | length_differs(out.len(), n * square);
+    refuse_if(is_wrong, Refusal::Length)?;
+    refuse_if(is_bad_key(p.l, s), Refusal::Key)?;
+    refuse_if(is_outside_big(p.q, masks), Refusal::Entry)?;
+    refuse_if(is_exceeding(p.f, errors), Refusal::Error)
 }
 
 // Makes a switching key: n rows of n² entries, from a key, masks for the rows below row 0, and errors. Refusals 1, 3, 4, 6, 7.
@@ -65,18 +68,12 @@ pub fn make_switching_key(
     masks: &[i64],
     errors: &[i64],
     out: &mut [i64],
-) -> Refusal
-    ensures { MakeKeyPromise (make_key_loans p s.now masks.now errors.now out.old) result out.new }
+) -> Result<(), Refusal>
+    ensures { MakeKeyPromise (make_key_loans p s.now masks.now errors.now out.old) (answer_to result) out.new }
 {
-    let number = make_key_number(p, s, masks, errors, out);
-    if number != 0 {
-        return Refusal { number, place: 0 };
-    }
+    check_make_key(p, s, masks, errors, out)?;
     let square = errors.len();
     fill_row_zero(p.q, s, masks, errors, &mut out[0..square]);
     copy(masks, &mut out[square..]);
-    Refusal {
-        number: 0,
-        place: 0,
-    }
+    Ok(())
 }
