@@ -1,4 +1,4 @@
--- What `round_quotient` rests on. For an even q round(a/q) is (a + q/2)/q rounded down (`round_even`), and so is what the library's `div_euclid` gives for a divisor
+-- What `round_quotient` rests on. For an even q round(a/q) is (a + q/2)/q rounded down (`round_even`), and so is what the library's div_euclid gives for a divisor
 -- above 0 (`euclid_floor`). That nothing wraps follows from |a| ≤ 2^62. Assumes nothing.
 use Rattle.std.proofs.Common.{◌≡◌, refl, sym, ◌/◌, ◌≤◌, ◌<◌, ℕ, arith, w64, SFits, ℤ, pos, negsuc, ◌+ℤ◌, nat_abs, to_z-of_z}
 use Rattle.std.specs.Int.{int_div_euclid}

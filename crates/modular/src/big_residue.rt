@@ -41,7 +41,7 @@ impl BigResidue {
         Residue::up_to_half(round_quotient(self.0, q), q)
     }
 
-    // The number. `Residue` has another name for it, so that one modulus is not stored for the other.
+    // The number. `Residue` has another name for it, so that one modulus is not stored for the other (must-not-compile/): an i64 from either type would be one name.
     pub fn big_value(self) -> i64
         ensures { result ≡ self.0 }
     {

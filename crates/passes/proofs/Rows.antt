@@ -1,4 +1,4 @@
--- The rows of a table, as `chunks_exact` gives them (`rows`), and what one of them has beside an entry of a key (`beside`).
+-- The rows of a table, as chunks_exact gives them (`rows`), and what one of them has beside an entry of a key (`beside`).
 use Rattle.std.proofs.Common.{◌≡◌, sym, ap, ◌∙◌, List, ◌∷◌, ◌++◌, ℕ, suc, ◌+◌, ◌*◌, ◌-◌, ◌/◌, ◌<◌, arith, length, length-append, length-take, length-drop, get_or, take_at, drop_at, ℤ, pos}
 use Rattle.std.proofs.Math.Nat.{div-eq_of_lt, div-eq-sub-div, mul-div_cancel}
 use Rattle.std.proofs.iter.Yields.{fronts}

@@ -1,4 +1,4 @@
--- `key::sum_of_sizes`: `sizes` recurses as the library's `sum_by` does.
+-- `key::sum_of_sizes`: `sizes` recurses as the library's sum_by does.
 use Rattle.std.proofs.Common.{◌∙◌, sym, refl, rules, nat_abs}
 use Rattle.std.proofs.lemmas.Iterator.{YieldsList-from_slice, YieldsList-from_map}
 use Rattle.std.proofs.lemmas.Iterator.Consumers.{YieldsList-at, sum_by_from_yields_List}
