@@ -4,9 +4,10 @@ from typing import NamedTuple
 
 from paper import CRATES
 
-HEAD = r'^ *(pub )?(?:extern "C" )?fn (\w+)(?:<[^>]*>)?\(([^)]*)\)(?: -> ([^\n{]+?))?'
+HEAD = r'^ *(pub )?(?:extern "C" )?fn (\w+)(?:<(?:[^<>]|<[^<>]*>)*>)?\(([^)]*)\)(?: -> ([^\n{]+?))?'
 CLAUSE = r"^ +(requires|ensures)(?: (\w+))? \{ (.*) \}$"
-FUNCTION = re.compile(HEAD + r"(?: \{|((?:\n +(?:requires|ensures)\b[^\n]*)*)\n *\{)$", re.M)
+# A trait's method ends after its clauses, with no body.
+FUNCTION = re.compile(HEAD + r"(?: \{|((?:\n +(?:requires|ensures)\b[^\n;]*)*)(?:\n *\{|;))$", re.M)
 
 
 class Clause(NamedTuple):
@@ -53,7 +54,8 @@ class Function(NamedTuple):
         name, given = self.promise()
         if name:
             parameters, fields = PROMISES[name]
-            names = [parameter for parameter, argument in zip(parameters, given) if argument == what]
+            of = re.compile(rf"(?:(?:answer_to|\w+_of) )?{re.escape(what)}")  # itself, or the paper's form of a Result
+            names = [parameter for parameter, argument in zip(parameters, given) if of.fullmatch(argument)]
             return next((fields[parameter] for parameter in names if parameter in fields), None)
         parts = [part for clause in self.ensures for part in clause.parts()]
         return next((part.split()[2] for part in parts if part.startswith(f"{what} ≡ ")), None)

@@ -35,7 +35,7 @@ LOGIC = (  # declarations, fields and locals; sets of rules; parameters; bound n
     re.compile(r"^ *(?:pub )?ruleset (\S+) =", re.M), re.compile(r"[({]([\w' -]+) :"), re.compile(r"λ ([\w' ]+)\."),
 )
 CODE = (  # declarations and locals; clauses; fields; parameters
-    re.compile(r"\b(?:fn|struct|enum|const|mod|let mut|let) (\w+)"), re.compile(r"^ +(?:requires|ensures) (\w+) \{", re.M),
+    re.compile(r"\b(?:fn|struct|enum|trait|const|mod|let mut|let) (\w+)"), re.compile(r"^ +(?:requires|ensures) (\w+) \{", re.M),
     re.compile(r"^ +(?:pub )?(\w+):", re.M), re.compile(r"[(,] ?(\w+): "),
 )
 
@@ -115,8 +115,8 @@ def declared(crate):
         module, owner = ("" if path.stem in ("lib", "main") else path.stem), ""
         found.add(("", module))
         for line in parted(path)[0].splitlines():
-            owner = next(iter(re.findall(r"^impl(?:<.*?>)? (?:.* for )?(\w+)", line)), "" if line.startswith("}") else owner)
-            for name in re.findall(r"^ *(?:pub )?(?:extern \"C\" )?(?:fn|struct|enum|const) (\w+)", line):
+            owner = next(iter(re.findall(r"^(?:impl(?:<.*?>)? (?:.* for )?|(?:pub )?trait )(\w+)", line)), "" if line.startswith("}") else owner)
+            for name in re.findall(r"^ *(?:pub )?(?:extern \"C\" )?(?:fn|struct|enum|trait|const) (\w+)", line):
                 found |= {(owner or module, name), (module, name)}
         found |= {("", name) for marks, _, name in uses(path) if marks}
     return found

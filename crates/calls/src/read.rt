@@ -157,7 +157,7 @@ impl<R: Read> Reader<'_, R> {
     }
 
     // A call: which one it is. Its number is not put into the store.
-    fn call(&mut self) -> Option<Kind>
+    fn read(&mut self) -> Option<Kind>
         ensures { self.new.store.ghost_name ≡ self.old.store.ghost_name }
     {
         let kind = Kind::try_from(self.input.number()?).ok()?;
@@ -178,6 +178,6 @@ pub fn call<R: Read>(input: &mut Input<R>, store: &mut [i64]) -> Option<(Kind, u
         store,
         len: 0,
     };
-    let kind = reader.call()?;
+    let kind = reader.read()?;
     Some((kind, reader.len))
 }
