@@ -44,6 +44,7 @@ impl<'a> Gates for Lists<'a> {
         self.kinds.len()
     }
 
+    #[tactic(auto, using(scheme::specs::Passed::differs_is), unfolding(circuit::specs::Circuits::uneven_lists))]
     fn is_uneven(&self) -> bool {
         let count = self.count();
         (self.lefts.len() != count) | (self.rights.len() != count)

@@ -13,10 +13,11 @@ use circuit::Gate;
 use lent::Gates;
 
 // 2: the count of inputs or gates is outside its range.
+#[tactic(auto, unfolding(circuit::specs::Circuits::bad_counts))]
 pub fn are_bad_counts(inputs: u32, gates: usize) -> bool
     ensures { result ≡ bad_counts inputs gates }
 {
-    !((1 <= inputs) & (inputs <= 1024)) | !((1 <= gates) & (gates <= 4096))
+    !(1..=1024).contains(&inputs) | !(1..=4096).contains(&gates)
 }
 
 // 8: the bound of some input does not fit the budget.

@@ -1,14 +1,14 @@
 -- `check::check_evaluate` answers by the rows of evaluation before planning's: each `refuse_if` asks the next row's test. Past 2 the counts are small, so that no
 -- product wraps, and past 3 the inputs' wires lie within the buffer.
-use Rattle.std.proofs.Common.{◌≡◌, refl, sym, ap, ◌∙◌, Bool, false, not, ◌||◌, List, ℕ, ◌+◌, ◌*◌, ◌≤◌, ℤ, length, length-take-le, mul-le-mul, mul-le-mul_right, arith}
+use Rattle.std.proofs.Common.{◌≡◌, refl, sym, ◌∙◌, Bool, false, ◌||◌, List, ℕ, ◌+◌, ◌*◌, ◌≤◌, ℤ, length, length-take-le, mul-le-mul, mul-le-mul_right, arith}
 use Rattle.whole.specs.Tests.{or_left, or_right}
 use Rattle.refusal.specs.declared.Params.{Params}
 use Rattle.refusal.specs.Parameters.{InRange}
 use Rattle.refusal.specs.First.{Row}
 use Rattle.refusal.proofs.Given.{given, refuses, goes_on, last_row, was_false}
-use Rattle.scheme.specs.Calls.{bad_params, differs}
+use Rattle.scheme.specs.Calls.{differs}
 use Rattle.scheme.specs.Passed.{length_is}
-use Rattle.keys.specs.Chain.{params_modulus, answered_range, or_same}
+use Rattle.keys.specs.Chain.{params_modulus, params_tested, answered_range, or_same}
 use Rattle.circuit.specs.Circuits.{Circuit, bad_counts}
 use Rattle.circuit.specs.Plan.{plan_loans, wire_count}
 use Rattle.circuit.specs.Evaluate.{EvaluateLoans, evaluate_loans, evaluate_front}
@@ -52,16 +52,16 @@ module _ (a : EvaluateLoans) {t : Bool}
       rw long (mul-le-mul_right l.p.n (omega arith))
 
 pub returns-in_err-refuse_if : goal.returns-in_err-refuse_if
-unfolding evaluate_front bad_params
+unfolding evaluate_front
 returns-in_err-refuse_if g c =
     given (front c.args.p c.args.inputs (g.C.Gates.lent c.args.circuit.now) c.args.bounds.now c.args.wires.now c.args.key.now c.args.scratch.now)
-    (refuses refl c.refuse_if.ensures c.in_err-refuse_if.was (ap not c.in_range.ensures) c.from_residual.ensures.1)
+    (refuses refl c.refuse_if.ensures c.in_err-refuse_if.was (sym (params_tested _ c.in_range.ensures refl)) c.from_residual.ensures.1)
 
 pub returns-in_err-refuse_if-2 : goal.returns-in_err-refuse_if-2
-unfolding evaluate_front bad_params
+unfolding evaluate_front
 returns-in_err-refuse_if-2 g c =
     given (front c.args.p c.args.inputs (g.C.Gates.lent c.args.circuit.now) c.args.bounds.now c.args.wires.now c.args.key.now c.args.scratch.now)
-    (goes_on c.refuse_if.ensures c.in_ok-refuse_if.was (ap not c.in_range.ensures)
+    (goes_on c.refuse_if.ensures c.in_ok-refuse_if.was (sym (params_tested _ c.in_range.ensures refl))
     (refuses refl c.refuse_if-2.ensures c.in_err-refuse_if-2.was (rw c.count-gates.ensures at c.are_bad_counts.ensures) c.from_residual-in_err-refuse_if-2.ensures.1))
 
 pub overflow_mul-square : goal.overflow_mul-square
@@ -80,10 +80,10 @@ pub overflow_mul-n : goal.overflow_mul-n
 overflow_mul-n g c = omega (arith, cube_fits (answered_range _ c.in_range.ensures (was_false c.refuse_if.ensures c.in_ok-refuse_if.was)))
 
 pub returns-in_err-refuse_if-3 : goal.returns-in_err-refuse_if-3
-unfolding evaluate_front bad_params
+unfolding evaluate_front
 returns-in_err-refuse_if-3 g c =
     given (front c.args.p c.args.inputs (g.C.Gates.lent c.args.circuit.now) c.args.bounds.now c.args.wires.now c.args.key.now c.args.scratch.now)
-    (goes_on c.refuse_if.ensures c.in_ok-refuse_if.was (ap not c.in_range.ensures)
+    (goes_on c.refuse_if.ensures c.in_ok-refuse_if.was (sym (params_tested _ c.in_range.ensures refl))
     (goes_on c.refuse_if-2.ensures c.in_ok-refuse_if-2.was (rw c.count-gates.ensures at c.are_bad_counts.ensures)
     (refuses refl c.refuse_if-3.ensures c.in_err-refuse_if-3.was
     (lengths_same c.is_uneven.ensures (rw c.count-gates.ensures at c.length_differs.ensures) (rw c.count-gates.ensures at c.length_differs-2.ensures)
@@ -106,10 +106,10 @@ pub is_outside_big-requires : goal.is_outside_big-requires
 is_outside_big-requires g c = params_modulus (answered_range _ c.in_range.ensures (was_false c.refuse_if.ensures c.in_ok-refuse_if.was))
 
 pub returns : goal.returns
-unfolding evaluate_front bad_params
+unfolding evaluate_front
 returns g c =
     given (front c.args.p c.args.inputs (g.C.Gates.lent c.args.circuit.now) c.args.bounds.now c.args.wires.now c.args.key.now c.args.scratch.now)
-    (goes_on c.refuse_if.ensures c.in_ok-refuse_if.was (ap not c.in_range.ensures)
+    (goes_on c.refuse_if.ensures c.in_ok-refuse_if.was (sym (params_tested _ c.in_range.ensures refl))
     (goes_on c.refuse_if-2.ensures c.in_ok-refuse_if-2.was (rw c.count-gates.ensures at c.are_bad_counts.ensures)
     (goes_on c.refuse_if-3.ensures c.in_ok-refuse_if-3.was
     (lengths_same c.is_uneven.ensures (rw c.count-gates.ensures at c.length_differs.ensures) (rw c.count-gates.ensures at c.length_differs-2.ensures)
