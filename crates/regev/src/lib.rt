@@ -14,7 +14,6 @@ ghost use Rattle.regev.specs.Ready.{EncryptIntoReady};
 
 use keys::tests::{is_bad_bit, is_bad_key, is_exceeding, is_outside, length_differs};
 use modular::residue::Residue;
-use passes::buffer::copy;
 use passes::key::inner_product;
 use refusal::{Params, Refusal, refuse_if};
 
@@ -49,7 +48,7 @@ fn encrypt_into(q: u32, s: &[i32], bit: u32, mask: &[i64], error: i64, out: &mut
     let half = (q as i64) / 2;
     let first = (bit as i64) * half - inner_product(&s[1..], mask) + error;
     out[0] = Residue::of(first, q).value();
-    copy(mask, &mut out[1..]);
+    out[1..].copy_from_slice(mask);
 }
 
 // Encrypts a bit with a lent mask and error into `out`, and answers the stated bound E. Refusals 1, 3, 4, 5, 6, 7.

@@ -14,7 +14,6 @@ ghost use Rattle.switchingkey.specs.Ready.{RowZeroEntryReady, FillRowZeroReady};
 
 use keys::tests::{is_bad_key, is_exceeding, is_outside_big, length_differs};
 use modular::big_residue::BigResidue;
-use passes::buffer::copy;
 use passes::key::inner_column;
 use refusal::{Params, Refusal, refuse_if};
 
@@ -74,6 +73,6 @@ pub fn make_switching_key(
     check_make_key(p, s, masks, errors, out)?;
     let square = errors.len();
     fill_row_zero(p.q, s, masks, errors, &mut out[0..square]);
-    copy(masks, &mut out[square..]);
+    out[square..].copy_from_slice(masks);
     Ok(())
 }

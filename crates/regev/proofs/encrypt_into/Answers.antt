@@ -1,5 +1,5 @@
 -- `regev::encrypt_into` writes `encrypt`: entry 0 is [b·q/2 − <s',a> + e]q by what `inner_product` and `Residue::of` ensure, where no number
--- on the way wraps (`masked`), and `copy` puts the mask behind it (`put_to_end`).
+-- on the way wraps (`masked`), and `copy_from_slice` puts the mask behind it (`put_to_end`).
 use Rattle.std.proofs.Common.{◌≡◌, ◌*◌, ◌-◌, ◌≤◌, ℕ, List, [], ◌∷◌, ◌++◌, length, drop, set, take, ℤ, pos, ◌+ℤ◌, ◌-ℤ◌, ◌*ℤ◌, nat_abs, ap, ap₂, ◌∙◌, arith, rules, length-drop, take_all, mul-le-mul, SFits, w64, to_z, of_z, to_z-of_z}
 use Rattle.std.proofs.Math.Facts.{to_z_pos}
 use Rattle.std.proofs.Math.Seq.{take-suc-set}
@@ -71,7 +71,7 @@ returns c =
     let t = steps r x_is in
     let back : to_z w64 (of_z w64 c.inner_product.result) ≡ c.inner_product.result = to_z-of_z {w = w64} {z = c.inner_product.result} (search rules) in
     let value_fits : SFits w64 c.value.result = search rules in
-    put_to_end 1 (set c.args.out.now 0 (to_z w64 (of_z w64 c.value.result))) c.copy.new.out
+    put_to_end 1 (set c.args.out.now 0 (to_z w64 (of_z w64 c.value.result))) c.copy_from_slice.new.self
     ∙ ap₂ {C = List ℤ} ◌++◌
     (take-suc-set c.args.out.now 0 _ (omega arith)
     ∙ ap (λ (x : ℤ). x ∷ [])
@@ -79,4 +79,4 @@ returns c =
     ∙ c.value.ensures
     ∙ simp (q_back r, bit_back r, back, to_z-of_z, half_fits r, t.first, t.less, c.ranges.error, t.all) at c.of.ensures
     ∙ ap (λ (x : ℤ). centred c.args.q (pos c.args.bit *ℤ half c.args.q -ℤ x +ℤ c.args.error)) x_is))
-    c.copy.ensures
+    c.copy_from_slice.ensures.after

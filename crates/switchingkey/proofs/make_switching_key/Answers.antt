@@ -1,5 +1,5 @@
 -- `switchingkey::make_switching_key` refuses where its check does, with the buffer as found, and otherwise leaves the switching key: row 0, which
--- `fill_row_zero` writes to the first n² entries, and then the masks, which `copy` writes to the others (`two_parts`). What the two ask
+-- `fill_row_zero` writes to the first n² entries, and then the masks, which `copy_from_slice` writes to the others (`two_parts`). What the two ask
 -- holds where no row applies (`make_key_ready`). Assumes nothing.
 use Rattle.std.proofs.Common.{◌≡◌, sym, ap, ◌∙◌, ◌-◌, arith, length, drop, length-drop, length-take}
 use Rattle.whole.specs.Lists.{length_tabulate}
@@ -28,14 +28,14 @@ fill_row_zero-requires c =
     fill_ready r _ (simp length-take (omega (arith, r.room)))
 
 -- row 0 is written, and what lies after it is as long as the masks
-pub copy-requires : goal.copy-requires
-copy-requires c =
+pub copy_from_slice-requires : goal.copy_from_slice-requires
+copy_from_slice-requires c =
     let a = make_key_loans c.args.p c.args.s.now c.args.masks.now c.args.errors.now c.args.out.now in
     let r = make_key_ready a (done_by (make_key_rows a) c.check_make_key.ensures c.in_ok-check_make_key.was) in
     let k = length a.errors in
     let row_long : length c.fill_row_zero.new.out ≡ k = ap length c.fill_row_zero.ensures ∙ length_tabulate _ _ ∙ sym r.errors_long in
     let rest = drop (k - 0) a.result in
-    sym (second_part c.fill_row_zero.new.out rest k row_long ∙ omega (arith, length-drop (k - 0) a.result, r.room))
+    second_part c.fill_row_zero.new.out rest k row_long ∙ omega (arith, length-drop (k - 0) a.result, r.room)
 
 -- with the masks after row 0 it is the key
 pub returns : goal.returns
@@ -47,4 +47,4 @@ returns c =
     let row_long : length c.fill_row_zero.new.out ≡ k = ap length c.fill_row_zero.ensures ∙ length_tabulate _ _ ∙ sym r.errors_long in
     let rest = drop (k - 0) a.result in
     make_key_done a c.check_make_key.ensures c.in_ok-check_make_key.was
-    (rw c.copy.ensures (two_parts c.fill_row_zero.new.out a.masks rest k row_long ∙ rw (c.fill_row_zero.ensures, r.count)))
+    (rw c.copy_from_slice.ensures.after (two_parts c.fill_row_zero.new.out a.masks rest k row_long ∙ rw (c.fill_row_zero.ensures, r.count)))
