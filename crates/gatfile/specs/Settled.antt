@@ -1,6 +1,6 @@
 -- Planning a file whose head is right: it lends its gates, and its inputs at bound E, and what planning then answers and leaves is what 9, 10 and the
 -- bounds of the file are.
-use Rattle.std.specs.Prelude.{◌≡◌, refl, ◌≢◌, ℕ, zero, suc, ◌+◌, ◌*◌, ◌≤◌, ◌<◌, length, get_or, take}
+use Rattle.std.specs.Prelude.{◌≡◌, refl, ℕ, zero, suc, ◌+◌, ◌*◌, ◌≤◌, ◌<◌, length, get_or, take, Result, Ok, Err, IfOk}
 use Rattle.std.proofs.Math.Path.{sym, ap, ap₂}
 use Rattle.std.proofs.Common.{◌∙◌, arith, length-drop, take_at, length-take-le}
 use Rattle.std.proofs.Math.Bool.{true, false, not}
@@ -11,13 +11,14 @@ use Rattle.std.proofs.Math.Seq.{take-append_seam}
 use Rattle.whole.specs.Lists.{tabulate, length_tabulate, get_or_tabulate, every, get_or_every}
 use Rattle.refusal.specs.declared.Params.{Params}
 use Rattle.refusal.specs.declared.Refusal.{Refusal}
-use Rattle.refusal.specs.First.{Row, refused, first_of, answer_of, Clear, answer_rest, first_rest, done_or, done_or_done, done_or_refused}
+use Rattle.refusal.specs.Answer.{Answer, refusal_number, refusal_place, answer_to}
+use Rattle.refusal.specs.First.{Row, refused, first_of, answer_of, Clear, answer_rest, first_rest, done_or, done_or_done}
+use Rattle.refusal.proofs.Given.{refused_by, done_by, refused_kept, done_written}
 use Rattle.scheme.specs.Arithmetic.{fits}
 use Rattle.scheme.specs.Passed.{lengths_same, below_fits}
 use Rattle.circuit.specs.declared.Gate.{Gate}
 use Rattle.circuit.specs.Circuits.{Circuit, gate, bad_counts, records, as_records}
 use Rattle.circuit.specs.Plan.{PlanLoans, plan_loans, wire_count, circuit_rows, plan_front, plan_rows, plan_answer, plan_bounds, PlanPromise, plan_alike}
-use Rattle.gatfile.specs.declared.settle.FileBounds.{FileBounds}
 use Rattle.circuitfile.specs.File.{field, file_params, file_inputs, file_gate_count, file_gate, file_gates, file_input_bounds, file_bounds, file_gate_rows, check_rows}
 use Rattle.circuitfile.specs.Order.{HeadRight, gate_answer, check_refusal}
 use Rattle.circuitfile.specs.Wires.{length_inputs, length_bounds}
@@ -118,7 +119,7 @@ module _ (file : List ℕ) (r : HeadRight file) (found : List ℕ) {p : Params} 
   lent : plan_loans p inputs (file_circuit file) (Es ++ drop inputs found) ≡ plan_loans (file_params file) (file_inputs file) (file_circuit file) (Es ++ drop inputs found)
   lent = rw (a, b)
 
-  pub lent_planned : {a : Refusal} {out : List ℕ} → PlanPromise (plan_loans p inputs (file_circuit file) (Es ++ drop inputs found)) a out
+  pub lent_planned : {a : Answer} {out : List ℕ} → PlanPromise (plan_loans p inputs (file_circuit file) (Es ++ drop inputs found)) a out
       → (a ≡ gate_answer file) × (out ≡ settled_bounds file found)
   unfolding settled_bounds
   lent_planned w =
@@ -128,47 +129,73 @@ module _ (file : List ℕ) (r : HeadRight file) (found : List ℕ) {p : Params} 
 -- ---- where 9 and 10 let the file pass, the table holds the bounds of all wires
 
 module _ (file : List ℕ) where
-  pub settled_all : (found : List ℕ) {a : Refusal} {out : List ℕ} → a ≡ gate_answer file → a.number ≡ 0 → out ≡ settled_bounds file found → out ≡ file_bounds file
+  pub settled_all : (found : List ℕ) {a : Answer} {out : List ℕ} → a ≡ gate_answer file → a.number ≡ 0 → out ≡ settled_bounds file found → out ≡ file_bounds file
   unfolding settled_bounds
-  settled_all found e z w = w ∙ done_or_done _ _ (sym (ap (λ (a : Refusal). a.number) e) ∙ z)
+  settled_all found e z w = w ∙ done_or_done _ _ (sym (ap (λ (a : Answer). a.number) e) ∙ z)
 
 -- ---- the check of a file, with the bounds of all wires
 
-abbrev pub file_bounds_of : Refusal → List ℕ → FileBounds
+-- number and place, and a table of bounds, which is 0 on a refusal
+pub record FileBounds : Type 0 where
+  pub number : ℕ
+  pub place : ℕ
+  pub bounds : List ℕ
+
+-- a table of zeros, one for each wire that a circuit may have
+abbrev pub no_bounds : List ℕ
+no_bounds = replicate 5120 0
+
+abbrev pub file_bounds_of : Answer → List ℕ → FileBounds
 file_bounds_of a table = record { number = a.number; place = a.place; bounds = table }
+
+-- the answer in the paper's form, of a call that answers a table, or why it refuses
+abbrev pub bounds_told : Result (List ℕ) Refusal → FileBounds
+bounds_told (Ok table) = record { number = 0; place = 0; bounds = table }
+bounds_told (Err r) = record { number = refusal_number r; place = refusal_place r; bounds = no_bounds }
+
+told_apart : (r : Result (List ℕ) Refusal) → answer_to r ≡ refused (bounds_told r).number (bounds_told r).place
+told_apart (Ok t) = refl
+told_apart (Err d) = refl
+
+-- the bounds of all wires at the front of a table
+abbrev pub bounds_table : List ℕ → List ℕ
+bounds_table file = file_bounds file ++ drop (length (file_bounds file)) no_bounds
+
+-- as many entries as there are wires are those bounds
+pub table_front : (file : List ℕ) {t : List ℕ} {n : ℕ} → t ≡ bounds_table file → n ≡ file_inputs file + file_gate_count file → (n ≤ length t) × (take n t ≡ file_bounds file)
+table_front file {t} {n} e w =
+    let wires : n ≡ length (file_bounds file) = w ∙ sym (length_bounds file) in
+    rw (e, wires) (omega (arith, length-append (file_bounds file) (drop (length (file_bounds file)) no_bounds)), take-append_seam (file_bounds file) _)
 
 module _ (file : List ℕ) where
   -- the bounds at the front of a table, and the rest as it was; on a refusal all of it
   unfoldable pub bounds_in : List ℕ → List ℕ
   bounds_in table = done_or (first_of (check_rows file)) (file_bounds file ++ drop (length (file_bounds file)) table) table
 
-  -- in a table of zeros, one for each wire that a circuit may have
   unfoldable pub bounds_answer : FileBounds
-  bounds_answer = file_bounds_of (check_refusal file) (bounds_in (replicate 5120 0))
+  bounds_answer = file_bounds_of (check_refusal file) (bounds_in no_bounds)
 
-  module _ (table : List ℕ) {a : Refusal} (e : a ≡ check_refusal file) where
-    number_is : first_of (check_rows file) ≡ a.number
-    number_is = sym (ap (λ (a : Refusal). a.number) e)
-
-    pub bounds_refused : a.number ≢ 0 → file_bounds_of a table ≡ file_bounds_of (check_refusal file) (bounds_in table)
-    unfolding bounds_in
-    bounds_refused h = ap₂ file_bounds_of e (sym (done_or_refused _ table (λ z. h (sym number_is ∙ z))))
-
-    pub bounds_done : {Bs : List ℕ} {n : ℕ} → a.number ≡ 0 → Bs ≡ file_bounds file → n ≡ file_inputs file + file_gate_count file
-        → file_bounds_of a (Bs ++ drop n table) ≡ file_bounds_of (check_refusal file) (bounds_in table)
-    unfolding bounds_in
-    bounds_done z f l =
-        ap₂ file_bounds_of e (ap₂ (λ (Bs : List ℕ) (n : ℕ). Bs ++ drop n table) f (l ∙ sym (length_bounds file)) ∙ sym (done_or_done _ table (number_is ∙ z)))
-
-  module _ {r : FileBounds} (e : r ≡ bounds_answer) where
-    -- the number and the place are the check's
-    pub bounds_refusal : refused r.number r.place ≡ check_refusal file
-    unfolding bounds_answer
-    bounds_refusal = ap (λ (r : FileBounds). refused r.number r.place) e
-
-    -- and where the number is 0, the bounds stand at the front
-    pub bounds_front : r.number ≡ 0 → (length (file_bounds file) ≤ length r.bounds) × (take (length (file_bounds file)) r.bounds ≡ file_bounds file)
+  -- what a call answers that answers the check's number and place, and where it is done the table
+  module _ {r : Result (List ℕ) Refusal} (e : answer_to r ≡ check_refusal file) where
+    pub bounds_refused : {d : Refusal} → r ≡ Err d → bounds_told r ≡ bounds_answer
     unfolding bounds_answer bounds_in
-    bounds_front z =
-        let whole = ap (λ (r : FileBounds). r.bounds) e ∙ done_or_done _ _ (number_is (replicate 5120 0) bounds_refusal ∙ z) in
-        rw whole (omega (arith, length-append (file_bounds file) (drop (length (file_bounds file)) (replicate 5120 0))), take-append_seam (file_bounds file) _)
+    bounds_refused h = ap bounds_told h ∙ ap₂ file_bounds_of (sym (ap answer_to h) ∙ e) (refused_kept (refused_by (check_rows file) e h) _ no_bounds)
+
+    pub bounds_done : {t : List ℕ} → r ≡ Ok t → t ≡ bounds_table file → bounds_told r ≡ bounds_answer
+    unfolding bounds_answer bounds_in
+    bounds_done h f = ap bounds_told h ∙ ap₂ file_bounds_of (sym (ap answer_to h) ∙ e) (done_written _ no_bounds (done_by (check_rows file) e h) f)
+
+  pub bounds_ended : (r : Result (List ℕ) Refusal) → answer_to r ≡ check_refusal file → IfOk r (λ t. t ≡ bounds_table file) → bounds_told r ≡ bounds_answer
+  bounds_ended (Ok t) e f = bounds_done e refl f
+  bounds_ended (Err d) e f = bounds_refused e refl
+
+  module _ (r : Result (List ℕ) Refusal) (e : bounds_told r ≡ bounds_answer) where
+    -- the number and the place are the check's
+    pub bounds_refusal : answer_to r ≡ check_refusal file
+    unfolding bounds_answer
+    bounds_refusal = told_apart r ∙ ap (λ (b : FileBounds). refused b.number b.place) e
+
+    -- and where it is done, the bounds stand in the table
+    pub bounds_listed : {t : List ℕ} → r ≡ Ok t → t ≡ bounds_table file
+    unfolding bounds_answer bounds_in
+    bounds_listed h = ap (λ (b : FileBounds). b.bounds) (sym (ap bounds_told h) ∙ e) ∙ done_or_done _ _ (done_by (check_rows file) bounds_refusal h)

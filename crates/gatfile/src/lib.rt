@@ -6,4 +6,4 @@ pub mod plan;
 mod settle;
 
 pub use lent::CircuitFile;
-pub use settle::{FileBounds, bounds};
+pub use settle::{WIRES, bounds};

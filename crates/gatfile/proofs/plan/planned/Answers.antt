@@ -1,53 +1,72 @@
 -- `plan::planned` answers and writes as planning on a file is defined: each return is one of the four ends of `Ends`.
-use Rattle.std.proofs.Common.{◌≡◌, sym, ap, ◌∙◌, List, ℕ, ◌*◌, length, arith}
+use Rattle.std.proofs.Common.{◌≡◌, sym, ap, ◌∙◌, false, not, List, ℕ, ◌+◌, ◌*◌, eqb, length, length-take-le, Result, Ok}
 use mathlib.Core.List.{flat_map}
-use Rattle.whole.specs.Lists.{put_first}
-use Rattle.refusal.specs.First.{first_of}
-use Rattle.circuitfile.specs.File.{head_rows, file_bounds, four_bytes}
+use Rattle.refusal.specs.declared.Refusal.{Refusal}
+use Rattle.refusal.specs.Answer.{answer_to}
+use Rattle.refusal.specs.First.{answer_of}
+use Rattle.refusal.proofs.Given.{passed_up, done_by, refused_up, was_true, was_false}
+use Rattle.scheme.specs.Passed.{differs_is, length_is}
+use Rattle.circuitfile.specs.File.{file_inputs, file_gate_count, head_rows, four_bytes}
 use Rattle.circuitfile.specs.Order.{HeadRight, head_right}
 use Rattle.circuitfile.specs.Wires.{length_bounds}
-use Rattle.gatfile.specs.Settled.{settled_all}
+use Rattle.gatfile.specs.declared.lent.CircuitFile.{CircuitFile}
+use Rattle.gatfile.specs.Settled.{table_front}
 use Rattle.gatfile.proofs.Ends.{planned_headed, planned_short, planned_refused, planned_done}
 use Rattle.gatfile.proofs.plan.planned.Goals as goal
 
--- past the head
-past : {file : List ℕ} {number : ℕ} → number ≡ first_of (head_rows file) → number ≡ 0 → HeadRight file
-past {file} e z = head_right file (sym e ∙ z)
+-- where the head's check has not refused
+opened : (file : List ℕ) {x : Result CircuitFile Refusal} {f : CircuitFile} → answer_to x ≡ answer_of (head_rows file) → x ≡ Ok f → HeadRight file
+opened file e h = head_right file (done_by (head_rows file) e h)
 
-pub returns-then-number-ne0 : goal.returns-then-number-ne0
-returns-then-number-ne0 c =
-    let e = planned_headed _ c.args.bounds.now c.head_number-number.ensures c.if-number-ne0.true in
-    record { value = e.0; bounds_after = e.1 }
+-- and the length of the buffer is right
+long : (file buffer : List ℕ) {n : ℕ} → n ≡ file_inputs file + file_gate_count file → not (eqb (length buffer) (4 * n)) ≡ false
+    → length buffer ≡ 4 * (file_inputs file + file_gate_count file)
+long file buffer e t = length_is _ _ (differs_is _ _ ∙ t) ∙ ap (λ (n : ℕ). 4 * n) e
 
-pub returns-then-bounds-wires : goal.returns-then-bounds-wires
-returns-then-bounds-wires c =
-    let r = past c.head_number-number.ensures c.if-number-ne0.false in
-    let e = planned_short _ c.args.bounds.now r (λ e. c.if-bounds-wires.true (e ∙ ap (λ n. 4 * n) (sym c.wire_count-wires.ensures.0))) in
-    record { value = e.0; bounds_after = e.1 }
+pub returns-in_err-circuit : goal.returns-in_err-circuit
+returns-in_err-circuit c =
+    let up = passed_up c.from_residual.result c.from_residual.ensures.1 in
+    let e = planned_headed c.args.file.now c.args.bounds.now up c.«open».ensures.answer c.in_err-circuit.was in
+    record { answer = e.0; bounds_after = e.1 }
 
-pub invariant_of-settle : goal.invariant_of-settle
-invariant_of-settle c = record { right = sym c.head_number-number.ensures ∙ c.if-number-ne0.false }
+pub returns-in_err-refuse_if : goal.returns-in_err-refuse_if
+returns-in_err-refuse_if c =
+    let right = opened c.args.file.now c.«open».ensures.answer c.in_ok-circuit.was in
+    let up = refused_up c.from_residual-in_err-refuse_if.result c.refuse_if.ensures c.in_err-refuse_if.was c.from_residual-in_err-refuse_if.ensures.1 in
+    let e = planned_short c.args.file.now c.args.bounds.now right up c.wire_count-wires.ensures.0 (was_true c.refuse_if.ensures c.in_err-refuse_if.was) in
+    record { answer = e.0; bounds_after = e.1 }
+
+pub returns-in_err-table : goal.returns-in_err-table
+returns-in_err-table c =
+    let right = opened c.args.file.now c.«open».ensures.answer c.in_ok-circuit.was in
+    let even = long c.args.file.now c.args.bounds.now c.wire_count-wires.ensures.0 (was_false c.refuse_if.ensures c.in_ok-refuse_if.was) in
+    let up = passed_up c.from_residual-in_err-table.result c.from_residual-in_err-table.ensures.1 in
+    let told = rw c.in_ok-circuit.ensures.opened at c.all_bounds.ensures.answer in
+    let e = planned_refused c.args.file.now c.args.bounds.now up right even told c.in_err-table.was in
+    record { answer = e.0; bounds_after = e.1 }
 
 pub slice_bounds-table-end : goal.slice_bounds-table-end
 slice_bounds-table-end c =
-    let r = past c.head_number-number.ensures c.if-number-ne0.false in
-    omega (arith, c.wire_count-wires.ensures.0, r.wires_high)
+    let listed = rw c.in_ok-circuit.ensures.opened at c.in_ok-table.ensures.table in
+    (table_front c.args.file.now listed c.wire_count-wires.ensures.0).0
 
-pub returns-then-settled-ne0 : goal.returns-then-settled-ne0
-returns-then-settled-ne0 c =
-    let r = past c.head_number-number.ensures c.if-number-ne0.false in
-    let long = c.if-bounds-wires.false ∙ ap (λ n. 4 * n) c.wire_count-wires.ensures.0 in
-    let e = planned_refused _ c.args.bounds.now r long c.settle-settled.ensures.value c.if-settled-ne0.true in
-    record { value = e.0; bounds_after = e.1 }
+pub slice_bounds-write_bounds-end : goal.slice_bounds-write_bounds-end
+slice_bounds-write_bounds-end c =
+    let listed = rw c.in_ok-circuit.ensures.opened at c.in_ok-table.ensures.table in
+    sym (length-take-le _ _ (table_front c.args.file.now listed c.wire_count-wires.ensures.0).0)
+
+pub write_bounds-requires : goal.write_bounds-requires
+write_bounds-requires c =
+    let listed = rw c.in_ok-circuit.ensures.opened at c.in_ok-table.ensures.table in
+    let even = long c.args.file.now c.args.bounds.now c.wire_count-wires.ensures.0 (was_false c.refuse_if.ensures c.in_ok-refuse_if.was) in
+    even ∙ ap (λ (n : ℕ). 4 * n) (sym (ap length (table_front c.args.file.now listed c.wire_count-wires.ensures.0).1 ∙ length_bounds _))
 
 pub returns : goal.returns
 returns c =
-    let r = past c.head_number-number.ensures c.if-number-ne0.false in
-    let long = c.if-bounds-wires.false ∙ ap (λ n. 4 * n) c.wire_count-wires.ensures.0 in
-    let filled : c.settle-settled.new.table ≡ file_bounds c.args.file.now =
-    settled_all _ _ c.settle-settled.ensures.value c.if-settled-ne0.false c.settle-settled.ensures.table_after in
-    let filled_long : length c.settle-settled.new.table ≡ c.wire_count-wires.result = ap length filled ∙ length_bounds _ ∙ sym c.wire_count-wires.ensures.0 in
-    let e =
-    planned_done _ c.args.bounds.now r long c.settle-settled.ensures.value c.if-settled-ne0.false
-    (c.write_bounds.ensures ∙ ap (flat_map four_bytes) (put_first _ _ _ filled_long ∙ filled)) in
-    record { value = e.0; bounds_after = e.1 }
+    let right = opened c.args.file.now c.«open».ensures.answer c.in_ok-circuit.was in
+    let even = long c.args.file.now c.args.bounds.now c.wire_count-wires.ensures.0 (was_false c.refuse_if.ensures c.in_ok-refuse_if.was) in
+    let listed = rw c.in_ok-circuit.ensures.opened at c.in_ok-table.ensures.table in
+    let told = rw c.in_ok-circuit.ensures.opened at c.all_bounds.ensures.answer in
+    let written = c.write_bounds.ensures ∙ ap (flat_map four_bytes) (table_front c.args.file.now listed c.wire_count-wires.ensures.0).1 in
+    let e = planned_done c.args.file.now c.args.bounds.now right even told c.in_ok-table.was written in
+    record { answer = e.0; bounds_after = e.1 }

@@ -1,39 +1,19 @@
--- `settle::bounds` answers the head's number (`check_headed`), or what 9, 10 and the place are (`check_settled`), with the bounds of all wires where the
--- number is 0 (`bounds_done`).
-use Rattle.std.proofs.Common.{◌≡◌, sym, ◌∙◌, List, ℕ, arith}
-use Rattle.std.proofs.Math.Nat.{sub-zero}
-use Rattle.refusal.specs.First.{first_of}
+-- `settle::bounds` answers as the head's check does where it refuses, and otherwise what 9, 10 and the place are (`check_settled`), with the bounds of all wires.
+use Rattle.std.proofs.Common.{◌∙◌}
+use Rattle.refusal.proofs.Given.{passed_up, done_by}
 use Rattle.circuitfile.specs.File.{head_rows}
-use Rattle.circuitfile.specs.Order.{HeadRight, head_right, check_headed, check_settled}
-use Rattle.gatfile.specs.Settled.{settled_all, bounds_answer, bounds_refused, bounds_done}
+use Rattle.circuitfile.specs.Order.{head_right, check_settled}
+use Rattle.gatfile.specs.Settled.{bounds_refused, bounds_ended}
+use Rattle.gatfile.proofs.Ends.{check_refused}
 use Rattle.gatfile.proofs.settle.bounds.Goals as goal
 
--- past the head
-past : {file : List ℕ} {number : ℕ} → number ≡ first_of (head_rows file) → number ≡ 0 → HeadRight file
-past {file} e z = head_right file (sym e ∙ z)
-
-pub returns-then-number-ne0 : goal.returns-then-number-ne0
-unfolding bounds_answer
-returns-then-number-ne0 c = bounds_refused _ _ (check_headed _ c.head_number-number.ensures c.if-number-ne0.true) c.if-number-ne0.true
-
-pub invariant_of-settle : goal.invariant_of-settle
-invariant_of-settle c = record { right = sym c.head_number-number.ensures ∙ c.if-number-ne0.false }
-
-pub slice_bounds-table-end : goal.slice_bounds-table-end
-slice_bounds-table-end c =
-    let r = past c.head_number-number.ensures c.if-number-ne0.false in
-    omega (arith, c.wire_count-wires.ensures.0, r.wires_high)
-
-pub returns-then-settled-ne0 : goal.returns-then-settled-ne0
-unfolding bounds_answer
-returns-then-settled-ne0 c =
-    let r = past c.head_number-number.ensures c.if-number-ne0.false in
-    bounds_refused _ _ (c.settle-settled.ensures.value ∙ check_settled _ r) c.if-settled-ne0.true
+pub returns-in_err-open : goal.returns-in_err-open
+returns-in_err-open c =
+    let h = passed_up c.from_residual.result c.from_residual.ensures.1 in
+    bounds_refused _ (check_refused _ c.open.ensures.answer c.in_err-open.was h) h
 
 pub returns : goal.returns
-unfolding bounds_answer
 returns c =
-    let r = past c.head_number-number.ensures c.if-number-ne0.false in
-    bounds_done _ _ (c.settle-settled.ensures.value ∙ check_settled _ r) c.if-settled-ne0.false
-    (settled_all _ _ c.settle-settled.ensures.value c.if-settled-ne0.false c.settle-settled.ensures.table_after)
-    (sub-zero _ ∙ c.wire_count-wires.ensures.0)
+    let right = head_right _ (done_by (head_rows c.args.file.now) c.open.ensures.answer c.in_ok-open.was) in
+    let told = rw c.in_ok-open.ensures.opened at c.all_bounds.ensures.answer in
+    bounds_ended _ c.all_bounds.result (told ∙ check_settled _ right) (rw c.in_ok-open.ensures.opened at c.all_bounds.ensures.table)

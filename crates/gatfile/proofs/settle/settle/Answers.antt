@@ -7,4 +7,4 @@ use Rattle.gatfile.proofs.settle.settle.Goals as goal
 pub returns : goal.returns
 returns c =
     let e = lent_planned _ (head_right _ c.args.circuit.right) c.args.table.now c.params-p.ensures c.inputs-count.ensures.0 (c.fill.ensures.after (λ y e. e)) c.requires c.plan.ensures in
-    record { value = e.0; table_after = e.1 }
+    record { answer = e.0; table_after = e.1 }
