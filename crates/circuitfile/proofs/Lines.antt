@@ -1,5 +1,6 @@
 -- Laws about what `specs/Lines` defines that rest on a definition which a must-fail edit turns.
-use Rattle.std.specs.Prelude.{◌≡◌, Bool, cond, ltb, take, drop}
+use Rattle.std.specs.Prelude.{◌≡◌, Bool, cond, ltb, take, drop, Result, Ok, Err}
+use Rattle.std.specs.Result.{result_unwrap_or}
 use Rattle.std.proofs.Math.Path.{refl, sym}
 use Rattle.std.proofs.Common.{◌∙◌, length-append, lt-ltb, le-ltb}
 use Rattle.std.proofs.Math.Bool.{true, false}
@@ -8,11 +9,11 @@ use Prim.Native.Nat.{ℕ, zero, suc, ◌+◌, ◌*◌, ◌-◌, ◌≤◌, ◌<�
 use native.Mathlib.Omega.{arith}
 use Rattle.std.proofs.Math.ListN.{length}
 use Rattle.std.proofs.Math.Seq.{take-append_seam}
+use Rattle.refusal.specs.declared.Refusal.{Refusal}
 use Rattle.refusal.specs.First.{first_of, place_of, done_or, are_single, place_single, first_last}
 use Rattle.circuit.specs.Circuits.{by_kind}
-use Rattle.circuit.specs.Records.{kind_neither}
 use Rattle.circuitfile.specs.File.{field, file_inputs, file_gate}
-use Rattle.circuitfile.specs.Text.{word_in, word_xor, word_and, word_not, kind_word, text, text_rows, printed, text_answer, text_buffer, TextPromise}
+use Rattle.circuitfile.specs.Text.{word_in, word_xor, word_and, word_not, kind_word, text, text_rows, printed, printed_of, text_answer, text_buffer, TextPromise}
 
 -- ---- the word of a wire
 
@@ -22,20 +23,9 @@ module _ (file : List ℕ) (wire : ℕ) where
   kind_input h = rw (lt-ltb wire (file_inputs file) h)
 
   module _ (h : file_inputs file ≤ wire) {k : ℕ} (e : k ≡ field file (23 + 5 * (wire - file_inputs file)) 1) where
-    by_kind_lem : kind_word file wire ≡ by_kind k word_xor word_and word_not
+    pub kind_gate : kind_word file wire ≡ by_kind k word_xor word_and word_not
     unfolding kind_word file_gate
-    by_kind_lem = rw (le-ltb wire (file_inputs file) h, e)
-
-    pub kind_xor : k ≡ 0 → kind_word file wire ≡ word_xor
-    unfolding by_kind
-    kind_xor z = by_kind_lem ∙ rw z
-
-    pub kind_and : k ≡ 1 → kind_word file wire ≡ word_and
-    unfolding by_kind
-    kind_and z = by_kind_lem ∙ rw z
-
-    pub kind_not : (k ≡ 0 → ⊥) → (k ≡ 1 → ⊥) → kind_word file wire ≡ word_not
-    kind_not a b = by_kind_lem ∙ kind_neither k word_xor word_and word_not a b
+    kind_gate = rw (le-ltb wire (file_inputs file) h, e)
 
   pub kind_few : length (kind_word file wire) ≤ 3
   unfolding kind_word by_kind word_in word_xor word_and word_not
@@ -48,6 +38,11 @@ module _ (file : List ℕ) (wire : ℕ) where
       by_wire false (suc (suc k)) = omega arith
 
 -- ---- in a lent buffer
+
+-- the length that is answered, 0 on a refusal
+pub bytes_answered : (r : Result ℕ Refusal) → result_unwrap_or r 0 ≡ (printed_of r).bytes
+bytes_answered (Ok n) = refl
+bytes_answered (Err d) = refl
 
 text_place : (file buffer : List ℕ) → place_of (text_rows file buffer) ≡ 0
 unfolding are_single text_rows

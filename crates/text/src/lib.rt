@@ -6,15 +6,15 @@ mod page;
 
 ghost use Rattle.std.specs.Prelude.{◌≡◌, [], ◌++◌, ◌≤◌, length};
 ghost use Rattle.circuitfile.specs.File.{file_bounds};
-ghost use Rattle.circuitfile.specs.Text.{wire_lines, ok_line, TextPromise};
+ghost use Rattle.circuitfile.specs.Text.{wire_lines, ok_line, printed_of, TextPromise};
 ghost use Rattle.circuitfile.specs.Text.{text as file_text};
 
 use crate::line::{put_pair, put_wire};
 use crate::page::Page;
 pub use crate::page::ROOM;
-use circuitfile::Printed;
 use filehead::{params, wire_count};
 use gatfile::{CircuitFile, bounds};
+use refusal::{Refusal, refuse_if};
 
 // The lines of all wires.
 fn put_wires(page: &mut Page, circuit: CircuitFile<'_>, bounds: &[u32])
@@ -43,35 +43,22 @@ fn put_text(page: &mut Page, file: &[u8])
     requires { page.old ≡ [] }
     ensures { page.new ≡ file_text file.now }
 {
-    let r = bounds(file);
-    if r.number != 0 {
-        put_pair(page, b"REFUSED ", r.number as u64, r.place);
-        return;
+    match bounds(file) {
+        Ok(table) => put_bounds(page, CircuitFile { file }, &table[..wire_count(file)]),
+        Err(r) => put_pair(page, b"REFUSED ", r.number() as u64, r.place()),
     }
-    let table = r.bounds;
-    put_bounds(page, CircuitFile { file }, &table[..wire_count(file)]);
 }
 
 // Writes the text at the front of the buffer and answers its length. A buffer that is shorter than the text is refused with 3, and nothing is
 // written. No text is longer than 102,432 bytes.
-pub fn text(file: &[u8], out: &mut [u8]) -> Printed
-    ensures promise { TextPromise file.now out.old result out.new }
+pub fn text(file: &[u8], out: &mut [u8]) -> Result<usize, Refusal>
+    ensures promise { TextPromise file.now out.old (printed_of result) out.new }
     ensures length_high { length (file_text file.now) ≤ 102432 }
 {
     let mut page = Page::new();
     put_text(&mut page, file);
     let text = page.text();
-    if out.len() < text.len() {
-        return Printed {
-            number: 3,
-            place: 0,
-            bytes: 0,
-        };
-    }
+    refuse_if(out.len() < text.len(), Refusal::Length)?;
     out[..text.len()].copy_from_slice(text);
-    Printed {
-        number: 0,
-        place: 0,
-        bytes: text.len(),
-    }
+    Ok(text.len())
 }

@@ -6,6 +6,7 @@ ghost use Rattle.circuitfile.specs.Lines.{pair_line};
 
 use crate::page::Page;
 use checks::lent::Gates;
+use circuit::kind::Kind;
 use filehead::inputs;
 use gatfile::CircuitFile;
 
@@ -18,10 +19,10 @@ fn kind(circuit: CircuitFile<'_>, wire: usize) -> &'static [u8]
     if wire < from {
         return b"IN ";
     }
-    match circuit.gate(wire - from).kind {
-        0 => b"XOR ",
-        1 => b"AND ",
-        _ => b"NOT ",
+    match Kind::of(circuit.gate(wire - from).kind) {
+        Kind::Xor => b"XOR ",
+        Kind::And => b"AND ",
+        Kind::Not => b"NOT ",
     }
 }
 
