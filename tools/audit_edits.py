@@ -61,6 +61,9 @@ def code_bodies(text):
         if head and head[2] == "const" and line.endswith(";"):
             yield Body(head[3], at, [line])
         elif head:
+            ends = next(k for k in range(at, len(lines)) if lines[k] in (head[1] + "{", head[1] + "}", head[1] + "];") or lines[k].endswith((";", "{", "[")))
+            if head[2] == "fn" and lines[ends].endswith(";"):  # a trait's, which has no body
+                continue
             close = next(k for k in range(at, len(lines)) if lines[k] in (head[1] + "}", head[1] + "];"))
             start = next(k for k in range(at, close) if lines[k] == head[1] + "{" or k == at and line.endswith(("{", "["))) + 1
             yield Body(head[3], start, lines[start:close])

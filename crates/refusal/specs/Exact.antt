@@ -12,9 +12,9 @@ before k [] = []
 before k (r ∷ rows) = cond (eqb r.number k) [] (r ∷ before k rows)
 
 -- g is the first thing of which the test is true
-pub record IsFirst (tests : List Bool) (g : ℕ) : Type 0 where
-  pub here : get_or tests g false ≡ true
-  pub first : (i : ℕ) → i < g → get_or tests i false ≡ false
+pub record IsFirst (ts : List Bool) (g : ℕ) : Type 0 where
+  pub here : get_or ts g false ≡ true
+  pub first : (i : ℕ) → i < g → get_or ts i false ≡ false
 
 -- what is exact about the answer a, of the row r and those behind it
 pub record Exact (r : Row) (rest : List Row) (a : Answer) : Type 0 where
