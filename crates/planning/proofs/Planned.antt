@@ -1,6 +1,7 @@
 -- What it tells that none of the rows in front of the gates' applies, and the four ends of planning: what each answers, and what it leaves in the bounds.
 use Rattle.std.proofs.Common.{◌≡◌, sym, ap, ◌∙◌, ◌≢◌, Bool, false, List, ℕ, ◌≤◌, ◌<◌, arith, length, length-take-le, Result, Err}
 use Rattle.refusal.specs.declared.Refusal.{Refusal}
+use Rattle.refusal.specs.declared.Refusal.TheVariants.{Budget}
 use Rattle.refusal.specs.Answer.{Answer, answer_to}
 use Rattle.refusal.specs.First.{refused, first_of, answer_of, answer_front, first_true, Clear, done_or_done, done_or_refused}
 use Rattle.refusal.proofs.Given.{refused_by, refused_number}
@@ -66,12 +67,13 @@ module _ (a : PlanLoans) where
       all_right = omega (arith, right, length_wrong_gates a.inputs gates)
 
       -- a gate is over the budget
-      pub planned_over : {o : ℕ} → (o ≡ first_true (over_all a)) × (o < length (over_all a)) → PlanPromise a (refused 10 o) a.bounds
+      pub planned_over : {r : Result (Unit {0}) Refusal} {e : Refusal} → (e ≡ Budget (first_true (over_all a))) × (first_true (over_all a) < length (over_all a))
+          → r ≡ Err e → PlanPromise a (answer_to r) a.bounds
       unfolding plan_answer plan_rows
-      planned_over e =
-          planned_refused (λ z. omega arith)
-          (rw e.0
-          (answered_over a.p a.inputs gates (stated a) (plan_front a) r.clear all_right (omega (arith, e.0, e.1, length_over_gates a.p gates (stated a)))))
+      planned_over e up =
+          rw (up, e.0)
+          (planned_refused (λ z. omega arith)
+          (answered_over a.p a.inputs gates (stated a) (plan_front a) r.clear all_right (omega (arith, e.1, length_over_gates a.p gates (stated a)))))
 
       -- none is
       pub planned_done : {out : List ℕ} → length (over_all a) ≤ first_true (over_all a) → out ≡ bounds_all a → PlanPromise a (refused 0 0) out

@@ -1,15 +1,14 @@
 // Planning a circuit: the checks of its gates, and the bounds of its wires.
 #![tactic(auto)]
 
-ghost use Rattle.std.specs.Prelude.{◌≡◌, ◌≤◌, take, IfNone};
+ghost use Rattle.std.specs.Prelude.{◌≡◌, ◌≤◌, take, OnOk};
 ghost use Rattle.refusal.specs.Answer.{answer_to};
 ghost use Rattle.refusal.specs.First.{answer_of};
 ghost use Rattle.scheme.specs.Arithmetic.{XOR_bound, AND_bound, NOT_bound};
 ghost use Rattle.circuit.specs.Circuits.{by_kind, over_gates, bounds_of};
 ghost use Rattle.circuit.specs.Plan.{plan_loans, plan_front, PlanPromise};
 ghost use Rattle.bound.specs.Ready.{AndBoundReady};
-ghost use Rattle.checks.specs.Ready.{IsFirstTrue};
-ghost use Rattle.planning.specs.Ready.{SettleReady};
+ghost use Rattle.planning.specs.Ready.{SettleReady, IsSettled};
 
 use bound::and_bound;
 use checks::lent::Gates;
@@ -18,6 +17,7 @@ use circuit::kind::Kind;
 use refusal::{Params, Refusal, refuse_if};
 
 // The bound of one gate's wire, before it is held to the budget.
+#[tactic(auto, using(circuit::specs::Kind::by_kind_of, scheme::specs::Wording::XOR_bound_is, scheme::specs::Wording::NOT_bound_is))]
 fn gate_bound(p: Params, kind: u32, b1: u32, b2: u32) -> u64
     requires { AndBoundReady p b1 b2 }
     ensures { (result ≡ by_kind kind (XOR_bound b1 b2) (AND_bound p.n p.q p.l p.f b1 b2) (NOT_bound b1)) × (result ≤ 1099511627776) }
@@ -29,12 +29,11 @@ fn gate_bound(p: Params, kind: u32, b1: u32, b2: u32) -> u64
     }
 }
 
-// Settles the budget: fills the bounds of the gates behind those of the inputs, up to the first gate whose bound does not fit, which it
-// answers.
-fn settle<C: Gates>(p: Params, inputs: usize, circuit: &C, table: &mut [u32]) -> Option<usize>
+// Settles the budget: fills the bounds of the gates behind those of the inputs, up to the first gate whose bound does not fit. Refusal 10.
+fn settle<C: Gates>(p: Params, inputs: usize, circuit: &C, table: &mut [u32]) -> Result<(), Refusal>
     requires { SettleReady p inputs (C.lent circuit.now) table.old }
-    ensures over { IsFirstTrue (over_gates p (C.lent circuit.now).gates (take inputs table.old)) result }
-    ensures table_after { IfNone result (table.new ≡ bounds_of p (C.lent circuit.now).gates (take inputs table.old)) }
+    ensures over { IsSettled (over_gates p (C.lent circuit.now).gates (take inputs table.old)) result }
+    ensures table_after { OnOk result (table.new ≡ bounds_of p (C.lent circuit.now).gates (take inputs table.old)) }
 {
     for g in 0..circuit.count() {
         let gate = circuit.gate(g);
@@ -42,11 +41,11 @@ fn settle<C: Gates>(p: Params, inputs: usize, circuit: &C, table: &mut [u32]) ->
         let b2 = table[gate.right as usize];
         let bound = gate_bound(p, gate.kind, b1, b2);
         if p.q as u64 <= 4 * bound {
-            return Some(g);
+            return Err(Refusal::Budget(g as u64));
         }
         table[inputs + g] = bound as u32;
     }
-    None
+    Ok(())
 }
 
 // The refusals of planning before those of the gates: 1, 2, 3, 8.
@@ -80,9 +79,7 @@ pub fn plan<C: Gates>(
     let mut table = [0u32; 5120];
     let total = bounds.len();
     table[..total].copy_from_slice(bounds);
-    if let Some(over) = settle(p, inputs as usize, circuit, &mut table[..total]) {
-        return Err(Refusal::Budget(over as u64));
-    }
+    settle(p, inputs as usize, circuit, &mut table[..total])?;
     bounds.copy_from_slice(&table[..total]);
     Ok(())
 }

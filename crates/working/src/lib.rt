@@ -15,6 +15,7 @@ use gates::{and_into, not_into, xor_into};
 use refusal::Params;
 
 // What a gate makes of its operands c and d, into the stretch of its own wire; NOT takes c alone.
+#[tactic(auto, using(circuit::specs::Kind::by_kind_of))]
 fn make_wire(
     p: Params,
     kind: u32,

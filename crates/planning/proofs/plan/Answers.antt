@@ -1,7 +1,8 @@
 -- `planning::plan` answers and writes as planning is defined: each return is one of the four ends of `Planned`. What `check_plan` tells where it does not refuse
 -- (`PlanReady`) is what the functions ask for, and the buffer gets the copy of the bounds that `settle` filled.
-use Rattle.std.proofs.Common.{◌≡◌, sym, ap, ◌∙◌, false, List, ◌++◌, ℕ, ◌≤◌, ◌<◌, length, take, take_at, length-take-le, arith, Result, Ok}
+use Rattle.std.proofs.Common.{◌≡◌, sym, ap, ◌∙◌, false, List, ◌++◌, ℕ, ◌≤◌, ◌<◌, length, take, take_at, length-take-le, arith, Result, Ok, Err}
 use Rattle.refusal.specs.declared.Refusal.{Refusal}
+use Rattle.refusal.specs.declared.Refusal.TheVariants.{Budget}
 use Rattle.refusal.specs.Answer.{answer_to}
 use Rattle.refusal.specs.First.{refused, answer_of, first_true, none_first}
 use Rattle.refusal.proofs.Given.{passed_up, done_by}
@@ -45,10 +46,10 @@ module _ (a : PlanLoans) (sized : a.circuit.uneven ≡ false → length a.circui
           gates_right = none_first _ right;
         }
 
-    refused_over : {o : ℕ}
-        → (o ≡ first_true (over_gates a.p a.circuit.gates (take a.inputs table))) × (o < length (over_gates a.p a.circuit.gates (take a.inputs table)))
-        → PlanPromise a (refused 10 o) a.bounds
-    refused_over e = planned_over a ready right (rw lent at e)
+    refused_over : {r : Result (Unit {0}) Refusal} {e : Refusal}
+        → (let tests = over_gates a.p a.circuit.gates (take a.inputs table) in (e ≡ Budget (first_true tests)) × (first_true tests < length tests)) → r ≡ Err e
+        → PlanPromise a (answer_to r) a.bounds
+    refused_over e up = planned_over a ready right (rw lent at e) up
 
     done : {filled out : List ℕ} (others : List ℕ)
         → length (over_gates a.p a.circuit.gates (take a.inputs table)) ≤ first_true (over_gates a.p a.circuit.gates (take a.inputs table))
@@ -80,12 +81,12 @@ pub settle-requires : goal.settle-requires
 settle-requires g c =
     to_settle _ (g.met.C.Gates.sized _) c.check_plan.ensures c.in_ok-check_plan.was c.in_default.ensures c.copy_from_slice.ensures.after _
 
-pub returns-in-Some-settle : goal.returns-in-Some-settle
-returns-in-Some-settle g c =
+pub returns-in_err-settle : goal.returns-in_err-settle
+returns-in_err-settle g c =
     refused_over _ (g.met.C.Gates.sized _) c.check_plan.ensures c.in_ok-check_plan.was c.in_default.ensures c.copy_from_slice.ensures.after _
-    c.in-Some-settle.ensures.over
+    c.in_err-settle.ensures.over (passed_up _ c.from_residual-in_err-settle.ensures.1)
 
 pub returns : goal.returns
 returns g c =
     done _ (g.met.C.Gates.sized _) c.check_plan.ensures c.in_ok-check_plan.was c.in_default.ensures c.copy_from_slice.ensures.after _ _
-    c.in_default-settle.ensures.over c.in_default-settle.ensures.table_after c.copy_from_slice-2.ensures.after
+    c.in_ok-settle.ensures.over c.in_ok-settle.ensures.table_after c.copy_from_slice-2.ensures.after

@@ -1,7 +1,8 @@
 -- `planning::settle` fills the table and answers the first gate over the budget. Leans on the laws of `Settled`. Operands lie below the gate's own wire since
 -- no gate is wrong (`gate_below`).
-use Rattle.std.proofs.Common.{◌≡◌, sym, ◌∙◌, List, ℕ, ◌+◌, ◌*◌, ◌≤◌, ◌<◌, length, get_or, take, set, arith}
+use Rattle.std.proofs.Common.{◌≡◌, sym, ap, ◌∙◌, List, ℕ, ◌+◌, ◌*◌, ◌≤◌, ◌<◌, length, get_or, take, set, arith}
 use Rattle.refusal.specs.declared.Params.{Params}
+use Rattle.refusal.specs.declared.Refusal.TheVariants.{Budget}
 use Rattle.refusal.specs.First.{first_true}
 use Rattle.scheme.specs.Arithmetic.{XOR_bound, AND_bound, NOT_bound}
 use Rattle.circuit.specs.declared.Gate.{Gate}
@@ -62,8 +63,10 @@ module _ {p : Params} {inputs : ℕ} {circuit : Circuit} {found : List ℕ} (r :
         settled : x ≡ get_or (bounds_all loans) (inputs + g) 0
         settled = made ∙ sym (settled_bound loans room s (gate 0 0 0) turn (sym read) (omega (arith, many)) below)
 
-        over : p.q ≤ 4 * x → (g ≡ first_true (over_all loans)) × (g < length (over_all loans))
-        over h = (settled_over loans room s (omega (arith, many)) (omega (arith, settled)), omega (arith, here, many, length_over_gates p circuit.gates (take inputs found)))
+        over : p.q ≤ 4 * x → (Budget g ≡ Budget (first_true (over_all loans))) × (first_true (over_all loans) < length (over_all loans))
+        over h =
+            let first : g ≡ first_true (over_all loans) = settled_over loans room s (omega (arith, many)) (omega (arith, settled)) in
+            (ap Budget first, omega (arith, first, here, many, length_over_gates p circuit.gates (take inputs found)))
 
         next : 4 * x < p.q → Settled loans (set table (inputs + g) x) (g + 1)
         next h = settled_step loans room s x (omega (arith, many)) settled h
