@@ -12,7 +12,7 @@ use text::ROOM;
 // One byte more than the longest valid file has. A longer file has the text of its first so many bytes: `long_text` of circuitfile's specs/Long.
 const MOST: usize = 20504;
 
-// Reads until the buffer is full or the input ends, and answers how many bytes were read.
+// Reads until the buffer is full or the input ends, and answers how many bytes were read. A read gives as many bytes as it likes, so none is counted in advance.
 fn read_input<R: Read>(input: &mut R, file: &mut [u8]) -> io::Result<usize>
     ensures { IfOk result (λ len. IsPrefixLen len file.new) }
 {
