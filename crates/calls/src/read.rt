@@ -20,7 +20,7 @@ pub const LONG: usize = 262400;
 pub const WIRES: usize = 5200;
 
 // Three numbers for each of as many gates.
-const GATES: usize = 15600;
+const GATES: usize = 3 * WIRES;
 
 // The most bytes of a circuit file or of its bounds, which have at most 20,503 and 20,480, and of a
 // text, which has at most 79,803.
@@ -106,7 +106,8 @@ impl Width {
     }
 }
 
-// Where a call is read from, and the store that it is put into, which has so many numbers of it.
+// Where a call is read from, and the store that it is put into, which has so many numbers of it. Each method says that it keeps the store
+// itself, of which two values speak, before and after, so that no ghost field can.
 #[derive(Drop)]
 struct Reader<'a, R> {
     input: &'a mut Input<R>,
