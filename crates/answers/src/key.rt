@@ -46,7 +46,7 @@ pub fn check_bench_key<W: Write>(mut call: Lent<'_>, output: &mut Output<W>)
     print::answer(output, &benchkey::check_bench_key(&s[..n], masks, errors));
 }
 
-// Call 6: a key, masks and errors.
+// Call 6: a key, masks and errors. It reads like call 5, and no common part is plainer: that would have to lend the key's buffer to what follows.
 pub fn make_bench_key<W: Write>(mut call: Lent<'_>, output: &mut Output<W>)
     ensures { 0 < length output.new }
 {

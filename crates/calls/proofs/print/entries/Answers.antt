@@ -24,6 +24,3 @@ pub returns-clause-holds : goal.returns-clause-holds
 returns-clause-holds g c =
     let passed = c.loop-x-test.false in
     put_as_holds g.T.Into.converts c.args.xs.now c.args.output.now _ (rw take_all at c.loop-x.invariant)
-
-pub returns-clause-put : goal.returns-clause-put
-returns-clause-put g c = let passed = c.loop-x-test.false in rw take_all at c.loop-x.invariant
