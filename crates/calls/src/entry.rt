@@ -23,7 +23,7 @@ impl Entry<i64> for i64 {
     }
 }
 
-// A signed number of 32 bits. This and the next two are no one impl over `TryFrom`: that says its result by a relation, and the promise of
+// A signed number of 32 bits. This and the next two are no one impl over std's TryFrom: that says its result by a relation, and the promise of
 // `copy` takes a function.
 #[tactic(auto, unfolding(crate::specs::Width::narrow, stream::specs::Ranges::inside))]
 impl Entry<i64> for i32 {
