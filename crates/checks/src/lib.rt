@@ -27,8 +27,9 @@ pub fn is_some_over(q: u32, bounds: &[u32]) -> bool
     bounds.iter().any(|bound| q as u64 <= 4 * (*bound as u64))
 }
 
-// 9: whether a gate that makes the wire `own` is wrong in kind, operand or NOT's right. No branch on the kind, which no processor can
-// foretell; NOT's right is held to `own` too, since 0 lies below the wire of any gate whose left does.
+// 9: whether a gate that makes the wire `own` is wrong in kind, operand or NOT's right. The kind is read as the number that is lent, since
+// `Kind` has no value for a wrong one, and there is no branch on it, which no processor can foretell; NOT's right is held to `own` too,
+// since 0 lies below the wire of any gate whose left does.
 pub fn is_wrong(own: u32, gate: Gate) -> bool
     ensures { result ≡ wrong_gate own gate }
 {

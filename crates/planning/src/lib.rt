@@ -80,6 +80,7 @@ pub fn plan<C: Gates>(
     if let Some(wrong) = first_wrong(inputs, circuit) {
         return Err(Refusal::Gate(wrong as u64));
     }
+    // A table with a length beside it, since there is no heap: nothing is written to the buffer on a refusal.
     let mut table = [0u32; 5120];
     let total = bounds.len();
     table[..total].copy_from_slice(bounds);
