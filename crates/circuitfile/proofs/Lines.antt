@@ -12,6 +12,7 @@ use Rattle.std.proofs.Math.Seq.{take-append_seam}
 use Rattle.refusal.specs.declared.Refusal.{Refusal}
 use Rattle.refusal.specs.First.{first_of, place_of, done_or, are_single, place_single, first_last}
 use Rattle.circuit.specs.Circuits.{by_kind}
+use Rattle.circuit.specs.Records.{kind_neither}
 use Rattle.circuitfile.specs.File.{field, file_inputs, file_gate}
 use Rattle.circuitfile.specs.Text.{word_in, word_xor, word_and, word_not, kind_word, text, text_rows, printed, printed_of, text_answer, text_buffer, TextPromise}
 
@@ -26,6 +27,17 @@ module _ (file : List ℕ) (wire : ℕ) where
     pub kind_gate : kind_word file wire ≡ by_kind k word_xor word_and word_not
     unfolding kind_word file_gate
     kind_gate = rw (le-ltb wire (file_inputs file) h, e)
+
+    pub kind_xor : k ≡ 0 → kind_word file wire ≡ word_xor
+    unfolding by_kind
+    kind_xor z = kind_gate ∙ rw z
+
+    pub kind_and : k ≡ 1 → kind_word file wire ≡ word_and
+    unfolding by_kind
+    kind_and z = kind_gate ∙ rw z
+
+    pub kind_not : (k ≡ 0 → ⊥) → (k ≡ 1 → ⊥) → kind_word file wire ≡ word_not
+    kind_not a b = kind_gate ∙ kind_neither k word_xor word_and word_not a b
 
   pub kind_few : length (kind_word file wire) ≤ 3
   unfolding kind_word by_kind word_in word_xor word_and word_not

@@ -22,6 +22,7 @@ fn bytes<const WIDTH: usize>(file: &[u8], at: usize) -> [u8; WIDTH]
 }
 
 // The field of one byte at `at`.
+#[tactic(auto, using(circuitfile::specs::Fields::field_one))]
 pub fn one(file: &[u8], at: usize) -> u32
     ensures { (result ≡ field file.now at 1) × (result < 256) }
 {
@@ -29,6 +30,7 @@ pub fn one(file: &[u8], at: usize) -> u32
 }
 
 // The field of two bytes at `at`.
+#[tactic(auto, unfolding(circuitfile::specs::File::field, circuitfile::specs::File::big_endian, whole::specs::Lists::tabulate))]
 pub fn two(file: &[u8], at: usize) -> u32
     ensures { (result ≡ field file.now at 2) × (result < 65536) }
 {
@@ -36,6 +38,7 @@ pub fn two(file: &[u8], at: usize) -> u32
 }
 
 // The field of four bytes at `at`.
+#[tactic(auto, unfolding(circuitfile::specs::File::field, circuitfile::specs::File::big_endian, whole::specs::Lists::tabulate))]
 pub fn four(file: &[u8], at: usize) -> u32
     ensures { result ≡ field file.now at 4 }
 {

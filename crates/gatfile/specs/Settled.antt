@@ -17,10 +17,11 @@ use Rattle.refusal.proofs.Given.{refused_by, done_by, refused_kept, done_written
 use Rattle.scheme.specs.Arithmetic.{fits}
 use Rattle.scheme.specs.Passed.{lengths_same, below_fits}
 use Rattle.circuit.specs.declared.Gate.{Gate}
-use Rattle.circuit.specs.Circuits.{Circuit, gate, bad_counts, records, as_records}
+use Rattle.circuit.specs.Circuits.{Circuit, gate, bad_counts, records, as_records, as_lists}
+use Rattle.circuit.specs.Records.{lists_records}
 use Rattle.circuit.specs.Plan.{PlanLoans, plan_loans, wire_count, circuit_rows, plan_front, plan_rows, plan_answer, plan_bounds, PlanPromise, plan_alike}
-use Rattle.circuitfile.specs.File.{field, file_params, file_inputs, file_gate_count, file_gate, file_gates, file_input_bounds, file_bounds, file_gate_rows, check_rows}
-use Rattle.circuitfile.specs.Order.{HeadRight, gate_answer, check_refusal}
+use Rattle.circuitfile.specs.File.{field, file_params, file_inputs, file_gate_count, file_gate, file_gates, file_input_bounds, file_bounds, head_rows, file_gate_rows, check_rows}
+use Rattle.circuitfile.specs.Order.{HeadRight, head_right, gate_answer, check_refusal}
 use Rattle.circuitfile.specs.Wires.{length_inputs, length_bounds}
 
 -- one part of each gate, and so the kinds, the lefts and the rights
@@ -54,10 +55,27 @@ module _ (file : List ℕ) where
   unfolding file_column file_gates
   records_file = records_tabulate (file_gate_count file) (file_gate file)
 
+  pub length_column : (part : Gate → ℕ) → length (file_column file part) ≡ file_gate_count file
+  unfolding file_column
+  length_column part = length_tabulate (file_gate_count file) (λ g. part (file_gate file g))
+
+  pub get_or_column : (part : Gate → ℕ) (g : ℕ) → g < file_gate_count file → get_or (file_column file part) g 0 ≡ part (file_gate file g)
+  unfolding file_column
+  get_or_column part g h = get_or_tabulate (file_gate_count file) (λ g. part (file_gate file g)) g 0 h
+
+  -- in three lists it is the same circuit
+  pub file_lists : as_lists (file_kinds file) (file_lefts file) (file_rights file) ≡ file_circuit file
+  file_lists =
+      lists_records (file_kinds file) (file_lefts file) (file_rights file) (length_column _ ∙ sym (length_column _), length_column _ ∙ sym (length_column _))
+      ∙ ap as_records records_file
+
   -- as many as the head says
   pub length_gates : length (file_gates file) ≡ file_gate_count file
   unfolding file_gates
   length_gates = length_tabulate (file_gate_count file) (file_gate file)
+
+  pub few_gates : first_of (head_rows file) ≡ 0 → length (file_gates file) ≤ 4096
+  few_gates right = omega (arith, length_gates, (head_right file right).gates_high)
 
   -- gate g, and its kind
   pub gate_lent : (g : ℕ) → g < length (file_gates file) → get_or (file_gates file) g (gate 0 0 0) ≡ file_gate file g
@@ -199,3 +217,6 @@ module _ (file : List ℕ) where
     pub bounds_listed : {t : List ℕ} → r ≡ Ok t → t ≡ bounds_table file
     unfolding bounds_answer bounds_in
     bounds_listed h = ap (λ (b : FileBounds). b.bounds) (sym (ap bounds_told h) ∙ e) ∙ done_or_done _ _ (done_by (check_rows file) bounds_refusal h)
+
+    pub bounds_front : {t : List ℕ} → r ≡ Ok t → (length (file_bounds file) ≤ length t) × (take (length (file_bounds file)) t ≡ file_bounds file)
+    bounds_front h = table_front file (bounds_listed h) (length_bounds file)

@@ -34,6 +34,7 @@ impl<'a> Gates for CircuitFile<'a> {
 
     ghost sized = { λ c e. refl };
 
+    #[tactic(auto, using(crate::specs::Settled::length_gates))]
     fn count(&self) -> usize {
         gate_count(self.file)
     }
@@ -42,6 +43,7 @@ impl<'a> Gates for CircuitFile<'a> {
         false
     }
 
+    #[tactic(auto, using(crate::specs::Settled::few_gates, crate::specs::Settled::gate_lent), unfolding(circuitfile::specs::File::file_gate))]
     fn gate(&self, g: usize) -> Gate {
         let at = HEAD + 5 * g;
         Gate {

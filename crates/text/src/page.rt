@@ -43,7 +43,8 @@ impl Page {
     // Writes bytes.
     pub fn put(&mut self, bytes: &[u8])
         requires { length self.old + length bytes.now ≤ 102432 }
-        ensures { self.new ≡ self.old ++ bytes.now }
+        ensures written { self.new ≡ self.old ++ bytes.now }
+        ensures length { length self.new ≡ length self.old + length bytes.now }
     {
         let to = self.len + bytes.len();
         self.bytes[self.len..to].copy_from_slice(bytes);
@@ -51,9 +52,11 @@ impl Page {
     }
 
     // Writes the decimal digits of a number.
+    #[tactic(auto, using(circuitfile::specs::Digits::decimal_short, circuitfile::specs::Digits::decimal_long, circuitfile::specs::Digits::length_short, circuitfile::specs::Digits::length_long))]
     pub fn put_number(&mut self, x: u64)
         requires { length self.old + length (decimal x) ≤ 102432 }
-        ensures { self.new ≡ self.old ++ decimal x }
+        ensures written { self.new ≡ self.old ++ decimal x }
+        ensures length { length self.new ≡ length self.old + length (decimal x) }
     {
         if 9 < x {
             self.put_number(x / 10);
@@ -64,7 +67,8 @@ impl Page {
     // Writes the digits of a number, and the byte that ends them.
     pub fn put_field(&mut self, x: u64, end: u8)
         requires { length self.old + length (decimal x) + 1 ≤ 102432 }
-        ensures { self.new ≡ self.old ++ (decimal x ++ (end ∷ [])) }
+        ensures written { self.new ≡ self.old ++ (decimal x ++ (end ∷ [])) }
+        ensures length { length self.new ≡ length self.old + length (decimal x) + 1 }
     {
         self.put_number(x);
         self.put(&[end]);

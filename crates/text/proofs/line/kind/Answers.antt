@@ -24,27 +24,27 @@ module _ (file : List ℕ) (wire : ℕ) {from : ℕ} (e : from ≡ file_inputs f
       let read : g.kind ≡ field file (23 + 5 * (wire - file_inputs file)) 1 = kind_lent file (wire - from) r inside ∙ ap (λ (n : ℕ). field file (23 + 5 * (wire - n)) 1) e in
       kind_gate file wire (omega (arith, e, h)) read ∙ by_kind_of g.kind word_xor word_and word_not ∙ ap (λ (k : Kind). among k word_xor word_and word_not) (sym o)
 
-pub returns-then-wire-from : goal.returns-then-wire-from
+pub returns-then-wire-from-clause-word : goal.returns-then-wire-from-clause-word
 unfolding word_in
-returns-then-wire-from c = ap spaced (sym (kind_input _ _ (omega (arith, c.if-wire-from.true, c.inputs-from.ensures.0))))
+returns-then-wire-from-clause-word c = ap spaced (sym (kind_input _ _ (omega (arith, c.if-wire-from.true, c.inputs-from.ensures.0))))
 
 pub gate-requires : goal.gate-requires
 gate-requires c = record { even = refl; inside = inside _ c.args.wire c.inputs-from.ensures.0 c.if-wire-from.false c.requires }
 
-pub returns-in-Xor : goal.returns-in-Xor
+pub returns-in-Xor-clause-word : goal.returns-in-Xor-clause-word
 unfolding word_xor
-returns-in-Xor c =
+returns-in-Xor-clause-word c =
     let k = word_of c.args.circuit.file.now c.args.wire c.inputs-from.ensures.0 c.if-wire-from.false c.requires c.gate.ensures c.in-Xor.ensures in
     ap spaced (sym k)
 
-pub returns-in-And : goal.returns-in-And
+pub returns-in-And-clause-word : goal.returns-in-And-clause-word
 unfolding word_and
-returns-in-And c =
+returns-in-And-clause-word c =
     let k = word_of c.args.circuit.file.now c.args.wire c.inputs-from.ensures.0 c.if-wire-from.false c.requires c.gate.ensures c.in-And.ensures in
     ap spaced (sym k)
 
-pub returns-in-Not : goal.returns-in-Not
+pub returns-in-Not-clause-word : goal.returns-in-Not-clause-word
 unfolding word_not
-returns-in-Not c =
+returns-in-Not-clause-word c =
     let k = word_of c.args.circuit.file.now c.args.wire c.inputs-from.ensures.0 c.if-wire-from.false c.requires c.gate.ensures c.in-Not.ensures in
     ap spaced (sym k)

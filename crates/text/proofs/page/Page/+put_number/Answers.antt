@@ -1,7 +1,7 @@
 -- `put_number` writes the digits as `decimal` has them: one, or the last behind the others, which are those of x/10.
-use Rattle.std.proofs.Common.{◌≡◌, refl, ap, ◌∙◌, List, [], ◌∷◌, ◌++◌, append_assoc, ℕ, ◌+◌, ◌/◌, ◌%◌, ◌≤◌, ◌<◌, length, length-append, arith}
+use Rattle.std.proofs.Common.{◌≡◌, refl, ◌∙◌, List, [], ◌∷◌, ◌++◌, append_assoc, ℕ, ◌+◌, ◌/◌, ◌%◌, ◌≤◌, ◌<◌, arith}
 use Rattle.circuitfile.specs.Text.{decimal}
-use Rattle.circuitfile.specs.Digits.{decimal_short, decimal_long, length_long}
+use Rattle.circuitfile.specs.Digits.{decimal_short, decimal_long}
 use Rattle.text.proofs.page.Page.+put_number.Goals as goal
 use Rattle.text.proofs.page.Page.+put_number.Goals.{then-x-gt9, else-x-gt9}
 
@@ -12,22 +12,9 @@ last old mid x h e = rw (e, append_assoc, ← decimal_long x h) refl
 only : (old mid : List ℕ) (x : ℕ) → x < 10 → mid ≡ old → mid ++ ((48 + x % 10) ∷ []) ≡ old ++ decimal x
 only old mid x h e = let one : x % 10 ≡ x = omega arith in rw (e, one, decimal_short x h) refl
 
-room : (old mid : List ℕ) (x : ℕ) → mid ++ ((48 + x % 10) ∷ []) ≡ old ++ decimal x → length mid + 1 ≡ length old + length (decimal x)
-room old mid x e = simp length-append at (ap length e)
-
-pub put_number-requires : goal.put_number-requires
-put_number-requires t c = (omega arith, omega (arith, length_long c.args.x c.if-x-gt9.true))
-
-pub put-requires : goal.put-requires
-put-requires t c =
-    elim c.if-x-gt9.branch [
-      | then-x-gt9 w ↦ omega (arith, room c.args.self.now c.if-x-gt9.self c.args.x (last c.args.self.now c.if-x-gt9.self c.args.x w.if-x-gt9.true (w.self-is ∙ w.put_number.ensures)))
-      | else-x-gt9 w ↦ omega (arith, room c.args.self.now c.if-x-gt9.self c.args.x (only c.args.self.now c.if-x-gt9.self c.args.x (omega arith) w.self-is))
-    ]
-
-pub returns : goal.returns
-returns t c =
-    c.put.ensures ∙ elim c.if-x-gt9.branch [
-      | then-x-gt9 w ↦ last c.args.self.now c.if-x-gt9.self c.args.x w.if-x-gt9.true (w.self-is ∙ w.put_number.ensures)
+pub returns-clause-written : goal.returns-clause-written
+returns-clause-written t c =
+    c.put.ensures.written ∙ elim c.if-x-gt9.branch [
+      | then-x-gt9 w ↦ last c.args.self.now c.if-x-gt9.self c.args.x w.if-x-gt9.true (w.self-is ∙ w.put_number.ensures.written)
       | else-x-gt9 w ↦ only c.args.self.now c.if-x-gt9.self c.args.x (omega arith) w.self-is
     ]
