@@ -40,7 +40,8 @@ impl Page {
         &self.bytes[..self.len]
     }
 
-    // Writes bytes.
+    // Writes bytes. The block of `stream` takes them alike: one type for both is no plainer, since a size that is a const parameter can't be lent
+    // in part, and text would lean on `stream` for these three lines.
     pub fn put(&mut self, bytes: &[u8])
         requires { length self.old + length bytes.now ≤ 102432 }
         ensures written { self.new ≡ self.old ++ bytes.now }
@@ -51,7 +52,8 @@ impl Page {
         self.len = to;
     }
 
-    // Writes the decimal digits of a number.
+    // Writes the decimal digits of a number: the last behind those of the others, as the definition has it. Those of `stream::decimal` lie in a
+    // buffer of their own, from which they would be copied.
     #[tactic(auto, using(circuitfile::specs::Digits::decimal_short, circuitfile::specs::Digits::decimal_long, circuitfile::specs::Digits::length_short, circuitfile::specs::Digits::length_long))]
     pub fn put_number(&mut self, x: u64)
         requires { length self.old + length (decimal x) ≤ 102432 }
