@@ -38,15 +38,16 @@ fn put_bounds(page: &mut Page, circuit: CircuitFile<'_>, bounds: &[u32])
     put_pair(page, b"OK ", output as u64, largest as u64);
 }
 
-// The text of any file.
-fn put_text(page: &mut Page, file: &[u8])
-    requires { page.old ≡ [] }
-    ensures { page.new ≡ file_text file.now }
+// The text of any file, on a page.
+fn text_of(file: &[u8]) -> Page
+    ensures { result ≡ file_text file.now }
 {
+    let mut page = Page::new();
     match bounds(file) {
-        Ok(table) => put_bounds(page, CircuitFile { file }, &table[..wire_count(file)]),
-        Err(r) => put_pair(page, b"REFUSED ", r.number() as u64, r.place()),
+        Ok(table) => put_bounds(&mut page, CircuitFile { file }, &table[..wire_count(file)]),
+        Err(r) => put_pair(&mut page, b"REFUSED ", r.number() as u64, r.place()),
     }
+    page
 }
 
 // Writes the text at the front of the buffer and answers its length. A buffer that is shorter than the text is refused with 3, and nothing is
@@ -55,8 +56,7 @@ pub fn text(file: &[u8], out: &mut [u8]) -> Result<usize, Refusal>
     ensures promise { TextPromise file.now out.old (printed_of result) out.new }
     ensures length_high { length (file_text file.now) ≤ 102432 }
 {
-    let mut page = Page::new();
-    put_text(&mut page, file);
+    let page = text_of(file);
     let text = page.text();
     refuse_if(out.len() < text.len(), Refusal::Length)?;
     out[..text.len()].copy_from_slice(text);
