@@ -3,6 +3,8 @@
 -- two lists entry by entry (`zip_with`, the library's), all pairs of two lists (`grid`), and a list in rows (`cut`, `flatten`).
 -- An entry is read by `get_or xs i d`; where i is below the length the default d does not matter, so the laws hold for any.
 use Rattle.std.specs.Prelude.{◌≡◌, Bool, true, false, cond, ◌&&◌, eqb, get_or, drop, set}
+use Rattle.std.specs.List.{list_all}
+use Rattle.std.proofs.lemmas.List.Recursion.{same_from_clauses}
 use Rattle.std.proofs.Math.Path.{refl, sym, ap, ap₂}
 use Rattle.std.proofs.Common.{◌∙◌, zero-add, add-zero, le_of_suc-le-suc, not-suc-le-zero, zero-lt-suc, mul-le-mul_right, div-add-mod', div-lt_iff_lt-mul, mod-lt, add-one, length-set, drop_of_length-le, length-take, take-append-drop, get_or-take, get_or-drop, length-take-le, take-suc, take_all, take-take, take-add, take_at, drop_at, drop-drop, get_or-append-add, ne_eqb}
 use Rattle.std.proofs.Math.Bool.{and-true, and-false, and_assoc, and-eq-true_iff}
@@ -199,6 +201,11 @@ module _ {ℓ κ} {A : Type ℓ} {B : Type κ} where
   unfolding every
   every_map p f [] h = refl
   every_map p f (x ∷ xs) h = (and-eq-true_iff (p (f x)) (every p (map f xs))).1 (h x, every_map p f xs h)
+
+-- `every` is the library's `list_all`
+pub every_all : {A : Type 0} (p : A → Bool) (xs : List A) → list_all p xs ≡ every p xs
+unfolding every
+every_all p xs = same_from_clauses (list_all p) (every p) (λ x b. p x && b) refl (λ _ _. refl) (λ _ _. refl) xs
 
 -- ---- a test of every entry by counting those that fail
 

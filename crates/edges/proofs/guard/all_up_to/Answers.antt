@@ -1,16 +1,10 @@
--- `guard::all_up_to`: `every` recurses as the library's `list_all` does. Assumes nothing.
-use Rattle.std.proofs.Common.{◌≡◌, ◌∙◌, refl, rules, tests, Bool, ℤ, List, ◌&&◌}
-use Rattle.std.specs.List.{list_all}
+-- `guard::all_up_to`: `every` is the library's `list_all`. Assumes nothing.
+use Rattle.std.proofs.Common.{◌∙◌, rules, tests}
 use Rattle.std.proofs.lemmas.Iterator.{YieldsList-from_slice}
 use Rattle.std.proofs.lemmas.Iterator.Search.{all_from_yields_List}
-use Rattle.std.proofs.lemmas.List.Recursion.{same_from_clauses}
-use Rattle.whole.specs.Lists.{every}
+use Rattle.whole.specs.Lists.{every_all}
 use Rattle.edges.specs.Guard.{is_up_to}
 use Rattle.edges.proofs.guard.all_up_to.Goals as goal
-
-every_all : (p : ℤ → Bool) (xs : List ℤ) → list_all p xs ≡ every p xs
-unfolding every
-every_all p xs = same_from_clauses (list_all p) (every p) (λ x b. p x && b) refl (λ _ _. refl) (λ _ _. refl) xs
 
 pub returns : goal.returns
 returns c =

@@ -1,15 +1,9 @@
--- `range::all_within`: `every` recurses as the library's `list_all` does.
-use Rattle.std.proofs.Common.{◌≡◌, ◌∙◌, refl, rules, tests, nat_le, Bool, ℤ, List, ◌&&◌, unsigned_abs}
-use Rattle.std.specs.List.{list_all}
+-- `range::all_within`: `every` is the library's `list_all`.
+use Rattle.std.proofs.Common.{◌∙◌, rules, tests, nat_le, unsigned_abs}
 use Rattle.std.proofs.lemmas.Iterator.{YieldsList-from_slice}
 use Rattle.std.proofs.lemmas.Iterator.Search.{all_from_yields_List}
-use Rattle.std.proofs.lemmas.List.Recursion.{same_from_clauses}
-use Rattle.whole.specs.Lists.{every}
+use Rattle.whole.specs.Lists.{every_all}
 use Rattle.passes.proofs.range.all_within.Goals as goal
-
-every_all : (p : ℤ → Bool) (xs : List ℤ) → list_all p xs ≡ every p xs
-unfolding every
-every_all p xs = same_from_clauses (list_all p) (every p) (λ x b. p x && b) refl (λ _ _. refl) (λ _ _. refl) xs
 
 pub returns : goal.returns
 returns c =
