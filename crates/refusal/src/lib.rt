@@ -174,13 +174,7 @@ impl Params {
         if 6 <= k {
             return Err(Refusal::Parameters);
         }
-        let s = SHEETS[k as usize];
-        Ok(Params {
-            n: s[0],
-            q: s[1],
-            l: s[2],
-            e: s[3],
-            f: s[4],
-        })
+        let [n, q, l, e, f] = SHEETS[k as usize];
+        Ok(Params { n, q, l, e, f })
     }
 }
