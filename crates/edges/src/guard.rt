@@ -1,18 +1,18 @@
 // Tests at run time of what the functions of `modular` require.
-ghost use Rattle.std.specs.Prelude.{◌≡◌, ◌≤◌, IfSome, leb, length};
+ghost use Rattle.std.specs.Prelude.{◌≡◌, ◌≤◌, leb, length};
 ghost use Rattle.whole.specs.Inner.{sizes};
 ghost use Rattle.whole.specs.Lists.{every};
-ghost use Rattle.scheme.specs.Loans.{Modulus};
 ghost use Rattle.stream.specs.Bounds.{CountIn};
 ghost use Rattle.stream.specs.Front.{front};
 ghost use Rattle.stream.specs.Ranges.{is_narrow};
 ghost use Rattle.edges.specs.Guard.{is_up_to, as_modulus, as_count, leading};
 
+use scheme::Modulus;
+
 // q where it is a modulus: even, and from 2 to 2^20.
 #[tactic(auto, unfolding(crate::specs::Guard::as_modulus, crate::specs::Guard::is_modulus, stream::specs::Ranges::inside))]
-pub fn modulus(q: i64) -> Option<u32>
-    ensures value { result ≡ as_modulus q }
-    ensures modulus { IfSome result (λ m. Modulus m) }
+pub fn modulus(q: i64) -> Option<Modulus>
+    ensures { result ≡ as_modulus q }
 {
     let Ok(m) = u32::try_from(q) else {
         return None;
@@ -20,7 +20,7 @@ pub fn modulus(q: i64) -> Option<u32>
     if m == 0 || m > 1048576 || m % 2 == 1 {
         return None;
     }
-    Some(m)
+    Some(Modulus::of(m))
 }
 
 // x where it counts or places entries: from 0 to 65,536.

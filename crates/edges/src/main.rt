@@ -28,8 +28,6 @@ mod key;
 mod list;
 mod print;
 
-ghost use Rattle.scheme.specs.Loans.{Modulus};
-
 use Answer::{Number, Numbers};
 use case::Case;
 use guard::{count, is_up_to, modulus};
@@ -37,6 +35,7 @@ use modular::big_residue::BigResidue;
 use modular::residue::Residue;
 use modular::round::round_quotient;
 use passes::range::{all_big_residues, all_residues, all_within};
+use scheme::Modulus;
 use std::io::{Read, Write};
 use stream::{Input, Output};
 
@@ -92,9 +91,7 @@ fn answer_to<'a>(case: Case, made: &'a mut [i64; MADE]) -> Option<Answer<'a>> {
 
 // round(a/q), of an a of at most 2^62 in size
 #[tactic(auto, using(crate::specs::Guard::at_most))]
-fn rounded(q: u32, a: i64) -> Option<i64>
-    requires { Modulus q }
-{
+fn rounded(q: Modulus, a: i64) -> Option<i64> {
     if !is_up_to(4611686018427387904, a) {
         return None;
     }

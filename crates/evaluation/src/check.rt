@@ -8,6 +8,7 @@ use checks::are_bad_counts;
 use checks::lent::Gates;
 use keys::tests::{is_outside, is_outside_big, length_differs};
 use refusal::{Params, Refusal, refuse_if};
+use scheme::Modulus;
 
 // The refusals of evaluation before planning's: 1, 2, 3, 6. What is left, 8, 9 and 10, is planning's.
 pub fn check_evaluate<C: Gates>(
@@ -22,6 +23,7 @@ pub fn check_evaluate<C: Gates>(
     ensures { answer_to result ≡ answer_of (evaluate_front (evaluate_loans (plan_loans p inputs (C.lent circuit.now) bounds.now) wires.now key.now scratch.now)) }
 {
     refuse_if(!p.in_range(), Refusal::Parameters)?;
+    let q = Modulus::of(p.q);
     let gates = circuit.count();
     refuse_if(are_bad_counts(inputs, gates), Refusal::Counts)?;
     let n = p.n as usize;
@@ -37,7 +39,7 @@ pub fn check_evaluate<C: Gates>(
         Refusal::Length,
     )?;
     refuse_if(
-        is_outside(p.q, &wires[..count * n]) | is_outside_big(p.q, key),
+        is_outside(q, &wires[..count * n]) | is_outside_big(q, key),
         Refusal::Entry,
     )
 }

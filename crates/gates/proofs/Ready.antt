@@ -8,7 +8,6 @@ use Rattle.refusal.specs.Parameters.{InRange}
 use Rattle.scheme.specs.Arithmetic.{XOR_bound}
 use Rattle.scheme.specs.Calls.{XorLoans, xor_rows, NotLoans, not_rows, AndLoans, and_bound, and_rows}
 use Rattle.scheme.specs.Passed.{params_in_range, length_is, entries_inside, bound_fits}
-use Rattle.keys.specs.Chain.{params_modulus}
 use Rattle.bound.specs.Ready.{AndBoundReady}
 use Rattle.gates.specs.Ready.{XorIntoReady, NotIntoReady, AndIntoReady}
 
@@ -28,7 +27,6 @@ xor_ready a e =
     record {
       range = r;
       into = record {
-        modulus = params_modulus r;
         left_long = left ∙ sym room;
         right_long = right ∙ sym room;
         left_inside = entries_inside a.p.q a.left (search (or_left, t.1.1.0.0) depth 8);
@@ -37,7 +35,11 @@ xor_ready a e =
       fits = bound_fits a.p.q (XOR_bound a.left_bound a.right_bound) t.1.1.1.1.0.0;
     }
 
-pub not_ready : (a : NotLoans) → first_of (not_rows a) ≡ 0 → NotIntoReady a.p.q a.ciphertext a.result
+pub record NotReady (a : NotLoans) : Type 0 where
+  pub range : InRange a.p
+  pub into : NotIntoReady a.p.q a.ciphertext a.result
+
+pub not_ready : (a : NotLoans) → first_of (not_rows a) ≡ 0 → NotReady a
 unfolding position_in order position in_order not_rows
 not_ready a e =
     let t : Clear (not_rows a) = first_clear (not_rows a) refl e in
@@ -45,10 +47,12 @@ not_ready a e =
     let long : length a.ciphertext ≡ a.p.n = length_is (length a.ciphertext) a.p.n (search (or_left, t.1.0.0) depth 8) in
     let room : length a.result ≡ a.p.n = length_is (length a.result) a.p.n (search (or_left, or_right, t.1.0.0) depth 8) in
     record {
-      modulus = params_modulus r;
-      long = long ∙ sym room;
-      not_empty = omega (arith, r.n_low);
-      inside = entries_inside a.p.q a.ciphertext t.1.1.0.0;
+      range = r;
+      into = record {
+        long = long ∙ sym room;
+        not_empty = omega (arith, r.n_low);
+        inside = entries_inside a.p.q a.ciphertext t.1.1.0.0;
+      };
     }
 
 pub record AndReady (a : AndLoans) : Type 0 where
@@ -71,7 +75,6 @@ and_ready a e =
     record {
       room = room;
       into = record {
-        modulus = params_modulus r;
         high = omega (arith, r.n_high);
         left_long = left ∙ sym room;
         right_long = right ∙ sym room;

@@ -2,24 +2,20 @@
 use Rattle.std.specs.Prelude.{◌≡◌, true, List, ℕ, ◌*◌, ◌≤◌, ◌<◌, ℤ, length}
 use Rattle.whole.specs.Lists.{every}
 use Rattle.scheme.specs.Arithmetic.{is_residue}
-use Rattle.scheme.specs.Loans.{Modulus}
 
 pub record XorIntoReady (q : ℕ) (c d out : List ℤ) : Type 0 where
-  pub modulus : Modulus q
   pub left_long : length c ≡ length out
   pub right_long : length d ≡ length out
   pub left_inside : every (is_residue q) c ≡ true
   pub right_inside : every (is_residue q) d ≡ true
 
 pub record NotIntoReady (q : ℕ) (c out : List ℤ) : Type 0 where
-  pub modulus : Modulus q
   pub long : length c ≡ length out
   pub not_empty : 0 < length out
   pub inside : every (is_residue q) c ≡ true
 
 -- n is the length of the result
 pub record AndIntoReady (q : ℕ) (c d W scratch out : List ℤ) : Type 0 where
-  pub modulus : Modulus q
   pub high : length out ≤ 1024
   pub left_long : length c ≡ length out
   pub right_long : length d ≡ length out

@@ -11,31 +11,34 @@ use bound::and_bound;
 use keys::tests::{is_outside, is_outside_big, is_over, length_differs};
 use modular::residue::Residue;
 use refusal::{Params, Refusal, refuse_if};
+use scheme::Modulus;
 use switch::fill_switch;
 use tensor::fill_tensor;
 
 // XOR: entry by entry [c+d]q.
-pub fn xor_into(q: u32, c: &[i64], d: &[i64], out: &mut [i64])
+pub fn xor_into(q: Modulus, c: &[i64], d: &[i64], out: &mut [i64])
     requires { XorIntoReady q c.now d.now out.old }
     ensures { out.new ≡ XOR q c.now d.now }
 {
+    // q is at most 2^20, so that no sum of two entries wraps
+    let _ = q.get();
     for (i, x) in out.iter_mut().enumerate() {
         *x = Residue::near(c[i] + d[i], q).value();
     }
 }
 
 // NOT: q/2 added to entry 0 and reduced.
-pub fn not_into(q: u32, c: &[i64], out: &mut [i64])
+pub fn not_into(q: Modulus, c: &[i64], out: &mut [i64])
     requires { NotIntoReady q c.now out.old }
     ensures { out.new ≡ NOT q c.now }
 {
     out.copy_from_slice(c);
-    let half = (q as i64) / 2;
+    let half = (q.get() as i64) / 2;
     out[0] = Residue::near(c[0] + half, q).value();
 }
 
 // AND: tensor, then switch. The scratch is left with the tensor.
-pub fn and_into(q: u32, c: &[i64], d: &[i64], key: &[i64], scratch: &mut [i64], out: &mut [i64])
+pub fn and_into(q: Modulus, c: &[i64], d: &[i64], key: &[i64], scratch: &mut [i64], out: &mut [i64])
     requires { AndIntoReady q c.now d.now key.now scratch.old out.old }
     ensures out_after { out.new ≡ AND (length out.old) q key.now c.now d.now }
     ensures scratch_after { scratch.new ≡ tensor q c.now d.now }
@@ -49,12 +52,13 @@ fn check_xor(p: Params, c: &[i64], b1: u32, d: &[i64], b2: u32, out: &[i64]) -> 
     ensures { bounded_of result ≡ xor_answer (xor_loans p c.now b1 d.now b2 out.now) }
 {
     refuse_if(!p.in_range(), Refusal::Parameters)?;
+    let q = Modulus::of(p.q);
     let n = p.n as usize;
     let is_wrong = length_differs(c.len(), n)
         | length_differs(d.len(), n)
         | length_differs(out.len(), n);
     refuse_if(is_wrong, Refusal::Length)?;
-    refuse_if(is_outside(p.q, c) | is_outside(p.q, d), Refusal::Entry)?;
+    refuse_if(is_outside(q, c) | is_outside(q, d), Refusal::Entry)?;
     let x = b1 as u64;
     let y = b2 as u64;
     refuse_if(is_over(p.q, x) | is_over(p.q, y), Refusal::Bound)?;
@@ -74,7 +78,7 @@ pub fn xor(
     ensures { XorPromise (xor_loans p c.now b1 d.now b2 out.old) (bounded_of result) out.new }
 {
     let bound = check_xor(p, c, b1, d, b2, out)?;
-    xor_into(p.q, c, d, out);
+    xor_into(Modulus::of(p.q), c, d, out);
     Ok(bound)
 }
 
@@ -83,12 +87,13 @@ fn check_not(p: Params, c: &[i64], bound: u32, out: &[i64]) -> Result<u32, Refus
     ensures { bounded_of result ≡ not_answer (not_loans p c.now bound out.now) }
 {
     refuse_if(!p.in_range(), Refusal::Parameters)?;
+    let q = Modulus::of(p.q);
     let n = p.n as usize;
     refuse_if(
         length_differs(c.len(), n) | length_differs(out.len(), n),
         Refusal::Length,
     )?;
-    refuse_if(is_outside(p.q, c), Refusal::Entry)?;
+    refuse_if(is_outside(q, c), Refusal::Entry)?;
     refuse_if(is_over(p.q, bound as u64), Refusal::Bound)?;
     Ok(bound)
 }
@@ -98,7 +103,7 @@ pub fn not(p: Params, c: &[i64], bound: u32, out: &mut [i64]) -> Result<u32, Ref
     ensures { NotPromise (not_loans p c.now bound out.old) (bounded_of result) out.new }
 {
     let bound = check_not(p, c, bound, out)?;
-    not_into(p.q, c, out);
+    not_into(Modulus::of(p.q), c, out);
     Ok(bound)
 }
 
@@ -116,6 +121,7 @@ fn check_and(
     ensures { bounded_of result ≡ and_answer (and_loans p c.now b1 d.now b2 key.now scratch.now out.now) }
 {
     refuse_if(!p.in_range(), Refusal::Parameters)?;
+    let q = Modulus::of(p.q);
     let n = p.n as usize;
     let square = n * n;
     let is_wrong = length_differs(c.len(), n)
@@ -125,7 +131,7 @@ fn check_and(
         | length_differs(out.len(), n);
     refuse_if(is_wrong, Refusal::Length)?;
     refuse_if(
-        is_outside(p.q, c) | is_outside(p.q, d) | is_outside_big(p.q, key),
+        is_outside(q, c) | is_outside(q, d) | is_outside_big(q, key),
         Refusal::Entry,
     )?;
     refuse_if(
@@ -151,7 +157,7 @@ pub fn and(
     ensures { AndPromise (and_loans p c.now b1 d.now b2 key.now scratch.old out.old) (bounded_of result) out.new scratch.new }
 {
     let bound = check_and(p, c, b1, d, b2, key, scratch, out)?;
-    and_into(p.q, c, d, key, scratch, out);
+    and_into(Modulus::of(p.q), c, d, key, scratch, out);
     scratch.fill(0);
     Ok(bound)
 }

@@ -1,10 +1,10 @@
 // The tests that refusals are made of.
 ghost use Rattle.std.specs.Prelude.{◌≡◌, ◌*◌, ◌≤◌, length};
 ghost use Rattle.scheme.specs.Calls.{differs, bad_key, bad_bit, outside, exceeds, over_budget};
-ghost use Rattle.scheme.specs.Loans.{Modulus};
 
 use passes::key::sum_of_sizes;
 use passes::range::{all_big_residues, all_residues, all_within};
+use scheme::Modulus;
 
 // 3: a length differs from the one required.
 #[tactic(auto, unfolding(scheme::specs::Calls::differs))]
@@ -35,8 +35,7 @@ pub fn is_bad_bit(bit: u32) -> bool
 
 // 6: an entry is outside -q/2 to q/2-1.
 #[tactic(auto, unfolding(scheme::specs::Calls::outside))]
-pub fn is_outside(q: u32, xs: &[i64]) -> bool
-    requires { Modulus q }
+pub fn is_outside(q: Modulus, xs: &[i64]) -> bool
     ensures { result ≡ outside q xs.now }
 {
     !all_residues(xs, q)
@@ -44,8 +43,7 @@ pub fn is_outside(q: u32, xs: &[i64]) -> bool
 
 // 6: an entry is outside -Q/2 to Q/2-1.
 #[tactic(auto, unfolding(scheme::specs::Calls::outside))]
-pub fn is_outside_big(q: u32, xs: &[i64]) -> bool
-    requires { Modulus q }
+pub fn is_outside_big(q: Modulus, xs: &[i64]) -> bool
     ensures { result ≡ outside (q * q) xs.now }
 {
     !all_big_residues(xs, q)

@@ -4,6 +4,7 @@ ghost use Rattle.loops.specs.Lent.{switch_lent, after_runs};
 
 use crate::modulus::is_modulus;
 use passes::range::{all_big_residues, all_residues};
+use scheme::Modulus;
 use switch::fill_switch;
 
 // Whether t and a switching key are what a switch to n entries asks for.
@@ -15,8 +16,8 @@ fn switch_lent(q: u32, t: &[i64], key: &[i64], n: usize) -> bool
         && n <= 1024
         && t.len() == n * n
         && key.len() == n * t.len()
-        && all_residues(t, q)
-        && all_big_residues(key, q)
+        && all_residues(t, Modulus::of(q))
+        && all_big_residues(key, Modulus::of(q))
 }
 
 // Switches t `times` times into `out` and answers 1; 0 where a loan is not right, and then nothing is written.
@@ -28,8 +29,9 @@ pub extern "C" fn bench_switch(q: u32, t: &[i64], key: &[i64], out: &mut [i64], 
     if !switch_lent(q, t, key, out.len()) {
         return 0;
     }
+    let modulus = Modulus::of(q);
     for _ in 0..times {
-        fill_switch(q, t, key, out);
+        fill_switch(modulus, t, key, out);
     }
     1
 }

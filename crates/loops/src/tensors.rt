@@ -4,6 +4,7 @@ ghost use Rattle.loops.specs.Lent.{tensor_lent, after_runs};
 
 use crate::modulus::is_modulus;
 use passes::range::all_residues;
+use scheme::Modulus;
 use tensor::fill_tensor;
 
 // Whether c and d are two ciphertexts whose tensor has `entries` entries.
@@ -15,8 +16,8 @@ fn tensor_lent(q: u32, c: &[i64], d: &[i64], entries: usize) -> bool
         && c.len() <= 1024
         && d.len() <= 1024
         && entries == c.len() * d.len()
-        && all_residues(c, q)
-        && all_residues(d, q)
+        && all_residues(c, Modulus::of(q))
+        && all_residues(d, Modulus::of(q))
 }
 
 // Makes the tensor of c and d `times` times in `out` and answers 1; 0 where a loan is not right, and then nothing is written.
@@ -28,8 +29,9 @@ pub extern "C" fn bench_tensor(q: u32, c: &[i64], d: &[i64], out: &mut [i64], ti
     if !tensor_lent(q, c, d, out.len()) {
         return 0;
     }
+    let modulus = Modulus::of(q);
     for _ in 0..times {
-        fill_tensor(q, c, d, out);
+        fill_tensor(modulus, c, d, out);
     }
     1
 }

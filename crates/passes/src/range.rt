@@ -1,7 +1,8 @@
 ghost use Rattle.std.specs.Prelude.{◌≡◌, ℕ, ◌+◌, ◌*◌, ◌/◌, ◌<◌, ◌≤◌, ℤ, nat_le, unsigned_abs};
 ghost use Rattle.whole.specs.Lists.{every};
 ghost use Rattle.scheme.specs.Arithmetic.{is_residue};
-ghost use Rattle.scheme.specs.Loans.{Modulus};
+
+use scheme::Modulus;
 
 const TOP: u64 = 1 << 63;
 
@@ -22,19 +23,17 @@ fn all_below(xs: &[i64], h: u64) -> bool
 }
 
 // Whether every entry is in -q/2 to q/2-1.
-pub fn all_residues(xs: &[i64], q: u32) -> bool
-    requires { Modulus q }
+pub fn all_residues(xs: &[i64], q: Modulus) -> bool
     ensures { result ≡ every (is_residue q) xs.now }
 {
-    all_below(xs, u64::from(q) / 2)
+    all_below(xs, u64::from(q.get()) / 2)
 }
 
 // Whether every entry is in -Q/2 to Q/2-1, with Q = q².
-pub fn all_big_residues(xs: &[i64], q: u32) -> bool
-    requires { Modulus q }
+pub fn all_big_residues(xs: &[i64], q: Modulus) -> bool
     ensures { result ≡ every (is_residue (q * q)) xs.now }
 {
-    let wide = u64::from(q);
+    let wide = u64::from(q.get());
     all_below(xs, wide * wide / 2)
 }
 

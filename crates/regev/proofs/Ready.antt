@@ -14,7 +14,11 @@ use Rattle.scheme.specs.Loans.{Modulus}
 use Rattle.keys.specs.Chain.{params_modulus}
 use Rattle.regev.specs.Ready.{EncryptIntoReady}
 
-pub encrypt_ready : (a : EncryptLoans) → first_of (encrypt_rows a) ≡ 0 → EncryptIntoReady a.p.q a.key a.bit a.mask a.error a.result
+pub record EncryptReady (a : EncryptLoans) : Type 0 where
+  pub modulus : Modulus a.p.q
+  pub into : EncryptIntoReady a.p.q a.key a.bit a.mask a.error a.result
+
+pub encrypt_ready : (a : EncryptLoans) → first_of (encrypt_rows a) ≡ 0 → EncryptReady a
 unfolding position_in order position in_order encrypt_rows
 encrypt_ready a e =
     let t : Clear (encrypt_rows a) = first_clear (encrypt_rows a) refl e in
@@ -25,12 +29,14 @@ encrypt_ready a e =
     let error : nat_abs a.error ≤ a.p.e = each_get_or (errors_within a.p.e (a.error ∷ []) t.1.1.1.1.1.0.0) 0 (pos 0) (omega arith) in
     record {
       modulus = params_modulus r;
-      key_long = omega arith;
-      mask_long = omega arith;
-      key_small = omega (arith, key_within a.p.l a.key t.1.1.0.0);
-      bit_small = bit_within a.bit t.1.1.1.0.0;
-      mask_inside = entries_inside a.p.q a.mask t.1.1.1.1.0.0;
-      error_small = omega arith;
+      into = record {
+        key_long = omega arith;
+        mask_long = omega arith;
+        key_small = omega (arith, key_within a.p.l a.key t.1.1.0.0);
+        bit_small = bit_within a.bit t.1.1.1.0.0;
+        mask_inside = entries_inside a.p.q a.mask t.1.1.1.1.0.0;
+        error_small = omega arith;
+      };
     }
 
 pub record DecryptReady (a : DecryptLoans) : Type 0 where

@@ -3,10 +3,8 @@ use Rattle.std.specs.Prelude.{◌≡◌, true, List, ℕ, ◌+◌, ◌≤◌, �
 use Rattle.whole.specs.Lists.{every}
 use Rattle.whole.specs.Inner.{sizes}
 use Rattle.scheme.specs.Arithmetic.{is_residue}
-use Rattle.scheme.specs.Loans.{Modulus}
 
 pub record EncryptIntoReady (q : ℕ) (s : List ℤ) (b : ℕ) (mask : List ℤ) (e : ℤ) (out : List ℤ) : Type 0 where
-  pub modulus : Modulus q
   pub key_long : length s ≡ length out
   pub mask_long : length mask + 1 ≡ length out
   pub key_small : sizes s ≤ 4096

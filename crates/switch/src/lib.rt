@@ -5,11 +5,12 @@ ghost use Rattle.std.specs.Prelude.{◌≡◌, true, ◌*◌, ◌≤◌, pos, �
 ghost use Rattle.whole.specs.Inner.{inner};
 ghost use Rattle.whole.specs.Lists.{every};
 ghost use Rattle.scheme.specs.Arithmetic.{is_residue, switch_entry, switch};
-ghost use Rattle.scheme.specs.Loans.{Modulus, UpTo};
+ghost use Rattle.scheme.specs.Loans.{UpTo};
 
 use modular::big_residue::BigResidue;
 use modular::residue::Residue;
 use modular::wide::Wide;
+use scheme::Modulus;
 
 // The exact sum of at most 16 products.
 fn inner(t: &[i64], row: &[i64]) -> i64
@@ -40,16 +41,18 @@ fn row_sum(t: &[i64], row: &[i64]) -> Wide
 }
 
 // One switched entry: [round(S/q)]q for the exact S. Only S modulo Q matters, so that S is reduced before it is rounded.
-pub fn switch_entry(q: u32, t: &[i64], row: &[i64]) -> Residue
-    requires { Modulus q × (length t.now ≤ 1048576) × (length row.now ≡ length t.now) × (every (is_residue q) t.now ≡ true) × (every (is_residue (q * q)) row.now ≡ true) }
+pub fn switch_entry(q: Modulus, t: &[i64], row: &[i64]) -> Residue
+    requires { (length t.now ≤ 1048576) × (length row.now ≡ length t.now) × (every (is_residue q) t.now ≡ true) × (every (is_residue (q * q)) row.now ≡ true) }
     ensures { result.0 ≡ switch_entry q t.now row.now }
 {
+    // q is at most 2^20, so that S is no longer than two parts hold
+    let _ = q.get();
     BigResidue::of_wide(row_sum(t, row), q).round(q)
 }
 
 // All n entries of the switch of t, from the n rows of n² entries of the switching key.
-pub fn fill_switch(q: u32, t: &[i64], key: &[i64], out: &mut [i64])
-    requires { Modulus q × (length out.old ≤ 1024) × (length t.now ≡ length out.old * length out.old) × (length key.now ≡ length out.old * length t.now) × (every (is_residue q) t.now ≡ true) × (every (is_residue (q * q)) key.now ≡ true) }
+pub fn fill_switch(q: Modulus, t: &[i64], key: &[i64], out: &mut [i64])
+    requires { (length out.old ≤ 1024) × (length t.now ≡ length out.old * length out.old) × (length key.now ≡ length out.old * length t.now) × (every (is_residue q) t.now ≡ true) × (every (is_residue (q * q)) key.now ≡ true) }
     ensures { out.new ≡ switch (length out.old) q key.now t.now }
 {
     let width = t.len();

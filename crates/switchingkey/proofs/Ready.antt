@@ -42,9 +42,9 @@ make_key_ready a e =
     let room : length a.result ≡ a.p.n * (a.p.n * a.p.n) = length_is (length a.result) (n * (n * n)) (search (or_left, or_right, t.1.0.0) depth 8) in
     let m : Modulus a.p.q = params_modulus r in
     record {
+      modulus = m;
       count = key;
       row = record {
-        modulus = m;
         low = omega (arith, r.n_low);
         high = omega (arith, r.n_high);
         key_small = omega (arith, r.l_high, key_within a.p.l a.key t.1.1.0.0);

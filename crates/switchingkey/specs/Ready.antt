@@ -4,9 +4,8 @@ use Rattle.whole.specs.Inner.{sizes}
 use Rattle.scheme.specs.Calls.{MakeKeyLoans}
 use Rattle.scheme.specs.Loans.{Modulus, UpTo}
 
--- row 0, of the modulus, the key and the masks
+-- row 0, of the key and the masks
 pub record RowZeroReady (q : ℕ) (s masks : List ℤ) : Type 0 where
-  pub modulus : Modulus q
   pub low : 2 ≤ length s
   pub high : length s ≤ 1024
   pub key_small : sizes s ≤ 4096
@@ -28,6 +27,7 @@ pub record FillRowZeroReady (q : ℕ) (s masks errors out : List ℤ) : Type 0 w
 
 -- a whole switching key: what it tells that its maker refuses nothing
 pub record MakeKeyReady (a : MakeKeyLoans) : Type 0 where
+  pub modulus : Modulus a.p.q
   pub count : length a.key ≡ a.p.n
   pub row : RowZeroReady a.p.q a.key a.masks
   pub errors_long : length a.errors ≡ length a.key * length a.key

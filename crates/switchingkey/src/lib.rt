@@ -16,19 +16,20 @@ use keys::tests::{is_bad_key, is_exceeding, is_outside_big, length_differs};
 use modular::big_residue::BigResidue;
 use passes::key::inner_column;
 use refusal::{Params, Refusal, refuse_if};
+use scheme::Modulus;
 
 // Row 0, column j of a switching key: [q·su·sv - <s',mask column j> + fj]Q for j = u·n+v.
-fn row_zero_entry(q: u32, s: &[i32], masks: &[i64], error: i64, j: usize) -> BigResidue
+fn row_zero_entry(q: Modulus, s: &[i32], masks: &[i64], error: i64, j: usize) -> BigResidue
     requires { RowZeroEntryReady q s.now masks.now error j }
     ensures { result.0 ≡ centred (q * q) (pos q *ℤ get_or s.now (j / length s.now) (pos 0) *ℤ get_or s.now (j % length s.now) (pos 0) -ℤ inner (drop 1 s.now) (mask_column (length s.now) masks.now j) +ℤ error) }
 {
     let n = s.len();
-    let product = (q as i64) * (s[j / n] as i64) * (s[j % n] as i64);
+    let product = (q.get() as i64) * (s[j / n] as i64) * (s[j % n] as i64);
     BigResidue::of(product - inner_column(&s[1..], masks, n * n, j) + error, q)
 }
 
 // Row 0 of a switching key.
-fn fill_row_zero(q: u32, s: &[i32], masks: &[i64], errors: &[i64], out: &mut [i64])
+fn fill_row_zero(q: Modulus, s: &[i32], masks: &[i64], errors: &[i64], out: &mut [i64])
     requires { FillRowZeroReady q s.now masks.now errors.now out.old }
     ensures { out.new ≡ tabulate (length s.now * length s.now) (row_zero_entry (length s.now) q s.now masks.now errors.now) }
 {
@@ -48,6 +49,7 @@ fn check_make_key(
     ensures { answer_to result ≡ answer_of (make_key_rows (make_key_loans p s.now masks.now errors.now out.now)) }
 {
     refuse_if(!p.in_range(), Refusal::Parameters)?;
+    let q = Modulus::of(p.q);
     let n = p.n as usize;
     let square = n * n;
     let is_wrong = length_differs(s.len(), n)
@@ -56,7 +58,7 @@ fn check_make_key(
         | length_differs(out.len(), n * square);
     refuse_if(is_wrong, Refusal::Length)?;
     refuse_if(is_bad_key(p.l, s), Refusal::Key)?;
-    refuse_if(is_outside_big(p.q, masks), Refusal::Entry)?;
+    refuse_if(is_outside_big(q, masks), Refusal::Entry)?;
     refuse_if(is_exceeding(p.f, errors), Refusal::Error)
 }
 
@@ -72,7 +74,7 @@ pub fn make_switching_key(
 {
     check_make_key(p, s, masks, errors, out)?;
     let square = errors.len();
-    fill_row_zero(p.q, s, masks, errors, &mut out[0..square]);
+    fill_row_zero(Modulus::of(p.q), s, masks, errors, &mut out[0..square]);
     out[square..].copy_from_slice(masks);
     Ok(())
 }

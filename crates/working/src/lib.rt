@@ -13,6 +13,7 @@ use circuit::Gate;
 use circuit::kind::Kind;
 use gates::{and_into, not_into, xor_into};
 use refusal::Params;
+use scheme::Modulus;
 
 // What a gate makes of its operands c and d, into the stretch of its own wire; NOT takes c alone.
 #[tactic(auto, using(circuit::specs::Kind::by_kind_of))]
@@ -28,10 +29,11 @@ fn make_wire(
     requires { MakeWireReady p c.now d.now key.now scratch.old out.old }
     ensures { out.new ≡ by_kind kind (XOR p.q c.now d.now) (AND p.n p.q key.now c.now d.now) (NOT p.q c.now) }
 {
+    let q = Modulus::of(p.q);
     match Kind::of(kind) {
-        Kind::Xor => xor_into(p.q, c, d, out),
-        Kind::And => and_into(p.q, c, d, key, scratch, out),
-        Kind::Not => not_into(p.q, c, out),
+        Kind::Xor => xor_into(q, c, d, out),
+        Kind::And => and_into(q, c, d, key, scratch, out),
+        Kind::Not => not_into(q, c, out),
     }
 }
 

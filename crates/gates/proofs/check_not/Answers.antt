@@ -27,7 +27,7 @@ returns-in_err-refuse_if-3 c =
     bounded_refused _
     (goes_on c.refuse_if.ensures c.in_ok-refuse_if.was (ap not c.in_range.ensures)
     (goes_on c.refuse_if-2.ensures c.in_ok-refuse_if-2.was (or_same c.length_differs.ensures c.length_differs-2.ensures)
-    (refuses refl c.refuse_if-3.ensures c.in_err-refuse_if-3.was (c.is_outside.ensures) c.from_residual-in_err-refuse_if-3.ensures.1)))
+    (refuses refl c.refuse_if-3.ensures c.in_err-refuse_if-3.was (rw c.of-q.ensures at c.is_outside.ensures) c.from_residual-in_err-refuse_if-3.ensures.1)))
     (passed_up _ c.from_residual-in_err-refuse_if-3.ensures.1)
 
 pub returns-in_err-refuse_if-4 : goal.returns-in_err-refuse_if-4
@@ -36,7 +36,7 @@ returns-in_err-refuse_if-4 c =
     bounded_refused _
     (goes_on c.refuse_if.ensures c.in_ok-refuse_if.was (ap not c.in_range.ensures)
     (goes_on c.refuse_if-2.ensures c.in_ok-refuse_if-2.was (or_same c.length_differs.ensures c.length_differs-2.ensures)
-    (goes_on c.refuse_if-3.ensures c.in_ok-refuse_if-3.was (c.is_outside.ensures)
+    (goes_on c.refuse_if-3.ensures c.in_ok-refuse_if-3.was (rw c.of-q.ensures at c.is_outside.ensures)
     (refuses refl c.refuse_if-4.ensures c.in_err-refuse_if-4.was (c.is_over.ensures) c.from_residual-in_err-refuse_if-4.ensures.1))))
     (passed_up _ c.from_residual-in_err-refuse_if-4.ensures.1)
 
@@ -46,10 +46,10 @@ returns c =
     bounded_done
     (goes_on c.refuse_if.ensures c.in_ok-refuse_if.was (ap not c.in_range.ensures)
     (goes_on c.refuse_if-2.ensures c.in_ok-refuse_if-2.was (or_same c.length_differs.ensures c.length_differs-2.ensures)
-    (goes_on c.refuse_if-3.ensures c.in_ok-refuse_if-3.was (c.is_outside.ensures)
+    (goes_on c.refuse_if-3.ensures c.in_ok-refuse_if-3.was (rw c.of-q.ensures at c.is_outside.ensures)
     (goes_on c.refuse_if-4.ensures c.in_ok-refuse_if-4.was (c.is_over.ensures)
     (no_rows _)))))
     refl
 
-pub is_outside-requires : goal.is_outside-requires
-is_outside-requires c = params_modulus (answered_range _ c.in_range.ensures (was_false c.refuse_if.ensures c.in_ok-refuse_if.was))
+pub of-q-requires : goal.of-q-requires
+of-q-requires c = params_modulus (answered_range _ c.in_range.ensures (was_false c.refuse_if.ensures c.in_ok-refuse_if.was))

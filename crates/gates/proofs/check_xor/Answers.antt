@@ -28,7 +28,7 @@ returns-in_err-refuse_if-3 c =
     bounded_refused _
     (goes_on c.refuse_if.ensures c.in_ok-refuse_if.was (ap not c.in_range.ensures)
     (goes_on c.refuse_if-2.ensures c.in_ok-refuse_if-2.was (or_same (or_same c.length_differs.ensures c.length_differs-2.ensures) c.length_differs-3.ensures)
-    (refuses refl c.refuse_if-3.ensures c.in_err-refuse_if-3.was (or_same c.is_outside.ensures c.is_outside-2.ensures) c.from_residual-in_err-refuse_if-3.ensures.1)))
+    (refuses refl c.refuse_if-3.ensures c.in_err-refuse_if-3.was (rw c.of-q.ensures at (or_same c.is_outside.ensures c.is_outside-2.ensures)) c.from_residual-in_err-refuse_if-3.ensures.1)))
     (passed_up _ c.from_residual-in_err-refuse_if-3.ensures.1)
 
 pub returns-in_err-refuse_if-4 : goal.returns-in_err-refuse_if-4
@@ -37,7 +37,7 @@ returns-in_err-refuse_if-4 c =
     bounded_refused _
     (goes_on c.refuse_if.ensures c.in_ok-refuse_if.was (ap not c.in_range.ensures)
     (goes_on c.refuse_if-2.ensures c.in_ok-refuse_if-2.was (or_same (or_same c.length_differs.ensures c.length_differs-2.ensures) c.length_differs-3.ensures)
-    (goes_on c.refuse_if-3.ensures c.in_ok-refuse_if-3.was (or_same c.is_outside.ensures c.is_outside-2.ensures)
+    (goes_on c.refuse_if-3.ensures c.in_ok-refuse_if-3.was (rw c.of-q.ensures at (or_same c.is_outside.ensures c.is_outside-2.ensures))
     (refuses refl c.refuse_if-4.ensures c.in_err-refuse_if-4.was (or_same c.is_over.ensures c.is_over-2.ensures) c.from_residual-in_err-refuse_if-4.ensures.1))))
     (passed_up _ c.from_residual-in_err-refuse_if-4.ensures.1)
 
@@ -47,7 +47,7 @@ returns-in_err-refuse_if-5 c =
     bounded_refused _
     (goes_on c.refuse_if.ensures c.in_ok-refuse_if.was (ap not c.in_range.ensures)
     (goes_on c.refuse_if-2.ensures c.in_ok-refuse_if-2.was (or_same (or_same c.length_differs.ensures c.length_differs-2.ensures) c.length_differs-3.ensures)
-    (goes_on c.refuse_if-3.ensures c.in_ok-refuse_if-3.was (or_same c.is_outside.ensures c.is_outside-2.ensures)
+    (goes_on c.refuse_if-3.ensures c.in_ok-refuse_if-3.was (rw c.of-q.ensures at (or_same c.is_outside.ensures c.is_outside-2.ensures))
     (goes_on c.refuse_if-4.ensures c.in_ok-refuse_if-4.was (or_same c.is_over.ensures c.is_over-2.ensures)
     (refuses refl c.refuse_if-5.ensures c.in_err-refuse_if-5.was (c.is_over-3.ensures) c.from_residual-in_err-refuse_if-5.ensures.1)))))
     (passed_up _ c.from_residual-in_err-refuse_if-5.ensures.1)
@@ -58,20 +58,17 @@ returns c =
     bounded_done
     (goes_on c.refuse_if.ensures c.in_ok-refuse_if.was (ap not c.in_range.ensures)
     (goes_on c.refuse_if-2.ensures c.in_ok-refuse_if-2.was (or_same (or_same c.length_differs.ensures c.length_differs-2.ensures) c.length_differs-3.ensures)
-    (goes_on c.refuse_if-3.ensures c.in_ok-refuse_if-3.was (or_same c.is_outside.ensures c.is_outside-2.ensures)
+    (goes_on c.refuse_if-3.ensures c.in_ok-refuse_if-3.was (rw c.of-q.ensures at (or_same c.is_outside.ensures c.is_outside-2.ensures))
     (goes_on c.refuse_if-4.ensures c.in_ok-refuse_if-4.was (or_same c.is_over.ensures c.is_over-2.ensures)
     (goes_on c.refuse_if-5.ensures c.in_ok-refuse_if-5.was (c.is_over-3.ensures)
     (no_rows _))))))
     refl
-
-pub is_outside-requires : goal.is_outside-requires
-is_outside-requires c = params_modulus (answered_range _ c.in_range.ensures (was_false c.refuse_if.ensures c.in_ok-refuse_if.was))
-
-pub is_outside-requires-2 : goal.is_outside-requires-2
-is_outside-requires-2 c = params_modulus (answered_range _ c.in_range.ensures (was_false c.refuse_if.ensures c.in_ok-refuse_if.was))
 
 pub overflow_add-result : goal.overflow_add-result
 overflow_add-result c =
     let range = answered_range _ c.in_range.ensures (was_false c.refuse_if.ensures c.in_ok-refuse_if.was) in
     let fits = bound_fits _ _ (sym c.is_over-3.ensures ∙ was_false c.refuse_if-5.ensures c.in_ok-refuse_if-5.was) in
     omega (arith, fits, range.q_high)
+
+pub of-q-requires : goal.of-q-requires
+of-q-requires c = params_modulus (answered_range _ c.in_range.ensures (was_false c.refuse_if.ensures c.in_ok-refuse_if.was))

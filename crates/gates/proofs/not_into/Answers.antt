@@ -32,25 +32,25 @@ first_size q c inside h = residue_size _ _ (every_get_or (is_residue q) c 0 (pos
 
 pub overflow_add-c : goal.overflow_add-c
 overflow_add-c c =
-    let m = c.requires.modulus in
+    let m = c.get.ensures.modulus in
     let f : nat_abs (get_or c.args.c.now 0 (pos 0)) ≤ c.args.q / 2 = first_size _ _ c.requires.inside (omega arith) in
-    rw (modulus_is m) (search (sum_fits, m, f, share, lit≤))
+    rw (c.get.ensures.value, modulus_is m) (search (sum_fits, m, f, share, lit≤))
 
 pub near-requires : goal.near-requires
 near-requires c =
-    let m = c.requires.modulus in
+    let m = c.get.ensures.modulus in
     let f : nat_abs (get_or c.args.c.now 0 (pos 0)) ≤ c.args.q / 2 = first_size _ _ c.requires.inside (omega arith) in
-    (m, rw (modulus_is m) (search (sum_near, m, f, share, lit≤)))
+    rw (c.get.ensures.value, modulus_is m) (search (sum_near, m, f, share, lit≤))
 
 pub returns : goal.returns
 returns c =
     let q : ℕ = c.args.q in
     let d = c.args.c.now in
-    let m = c.requires.modulus in
+    let m = c.get.ensures.modulus in
     let read : SFits w64 c.value.result = search rules in
     ap (set c.copy_from_slice.new.self 0)
     (to_z-of_z read
     ∙ c.value.ensures
-    ∙ (rw (modulus_is m) at c.near.ensures)
+    ∙ (rw (c.get.ensures.value, modulus_is m) at c.near.ensures)
     ∙ ap (centred q) (sum_is (get_or d 0 (pos 0)) (half q) m (first_size q d c.requires.inside (omega arith)) (omega arith)))
     ∙ rw c.copy_from_slice.ensures.after (not_set q d (omega arith))

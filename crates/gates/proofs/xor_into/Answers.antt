@@ -25,17 +25,17 @@ loop-i-init c = fill_start _ _ (length_xor _ _ _ (c.requires.left_long ∙ sym c
 -- the entries of a turn; that their sum is safe holds of any two of them
 pub overflow_add-c : goal.overflow_add-c
 overflow_add-c c =
-    let m = c.requires.modulus in
+    let m = c.get.ensures.modulus in
     let left = entry_size c.args.q c.args.c.now c.loop-i.i c.requires.left_inside (omega arith) in
     let right = entry_size c.args.q c.args.d.now c.loop-i.i c.requires.right_inside (omega arith) in
     search (sum_fits, m, left, right)
 
 pub near-requires : goal.near-requires
 near-requires c =
-    let m = c.requires.modulus in
+    let m = c.get.ensures.modulus in
     let left = entry_size c.args.q c.args.c.now c.loop-i.i c.requires.left_inside (omega arith) in
     let right = entry_size c.args.q c.args.d.now c.loop-i.i c.requires.right_inside (omega arith) in
-    (m, search (sum_near, m, left, right))
+    search (sum_near, m, left, right)
 
 pub loop-i-preserved : goal.loop-i-preserved
 loop-i-preserved c =
@@ -47,7 +47,7 @@ loop-i-preserved c =
     ∙ c.value.ensures
     ∙ c.near.ensures
     ∙ ap (centred q)
-    (sum_is (get_or c.args.c.now i (pos 0)) (get_or c.args.d.now i (pos 0)) c.requires.modulus
+    (sum_is (get_or c.args.c.now i (pos 0)) (get_or c.args.d.now i (pos 0)) c.get.ensures.modulus
     (entry_size _ _ _ c.requires.left_inside (omega arith))
     (entry_size _ _ _ c.requires.right_inside (omega arith)))
     ∙ sym (get_or_xor q c.args.c.now c.args.d.now i (omega arith) (omega arith)))

@@ -34,10 +34,10 @@ returns c =
     (goes_on c.refuse_if.ensures c.in_ok-refuse_if.was (ap not c.in_range.ensures)
     (goes_on c.refuse_if-2.ensures c.in_ok-refuse_if-2.was (or_same c.length_differs.ensures c.length_differs-2.ensures)
     (goes_on c.refuse_if-3.ensures c.in_ok-refuse_if-3.was (c.is_bad_key.ensures)
-    (last_row refl c.refuse_if-4.ensures (c.is_outside.ensures)))))
-
-pub is_outside-requires : goal.is_outside-requires
-is_outside-requires c = params_modulus (answered_range _ c.in_range.ensures (was_false c.refuse_if.ensures c.in_ok-refuse_if.was))
+    (last_row refl c.refuse_if-4.ensures (rw c.of-q.ensures at c.is_outside.ensures)))))
 
 pub is_bad_key-requires : goal.is_bad_key-requires
 is_bad_key-requires c = short (answered_range _ c.in_range.ensures (was_false c.refuse_if.ensures c.in_ok-refuse_if.was)) (sym c.length_differs.ensures ∙ or_left _ _ (was_false c.refuse_if-2.ensures c.in_ok-refuse_if-2.was))
+
+pub of-q-requires : goal.of-q-requires
+of-q-requires c = params_modulus (answered_range _ c.in_range.ensures (was_false c.refuse_if.ensures c.in_ok-refuse_if.was))

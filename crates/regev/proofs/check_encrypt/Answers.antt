@@ -44,7 +44,7 @@ returns-in_err-refuse_if-5 c =
     (goes_on c.refuse_if-2.ensures c.in_ok-refuse_if-2.was (or_same (or_same c.length_differs.ensures c.length_differs-2.ensures) c.length_differs-3.ensures)
     (goes_on c.refuse_if-3.ensures c.in_ok-refuse_if-3.was (c.is_bad_key.ensures)
     (goes_on c.refuse_if-4.ensures c.in_ok-refuse_if-4.was (c.is_bad_bit.ensures)
-    (refuses refl c.refuse_if-5.ensures c.in_err-refuse_if-5.was (c.is_outside.ensures) c.from_residual-in_err-refuse_if-5.ensures.1)))))
+    (refuses refl c.refuse_if-5.ensures c.in_err-refuse_if-5.was (rw c.of-q.ensures at c.is_outside.ensures) c.from_residual-in_err-refuse_if-5.ensures.1)))))
 
 pub returns : goal.returns
 unfolding encrypt_rows bad_params
@@ -54,14 +54,14 @@ returns c =
     (goes_on c.refuse_if-2.ensures c.in_ok-refuse_if-2.was (or_same (or_same c.length_differs.ensures c.length_differs-2.ensures) c.length_differs-3.ensures)
     (goes_on c.refuse_if-3.ensures c.in_ok-refuse_if-3.was (c.is_bad_key.ensures)
     (goes_on c.refuse_if-4.ensures c.in_ok-refuse_if-4.was (c.is_bad_bit.ensures)
-    (goes_on c.refuse_if-5.ensures c.in_ok-refuse_if-5.was (c.is_outside.ensures)
+    (goes_on c.refuse_if-5.ensures c.in_ok-refuse_if-5.was (rw c.of-q.ensures at c.is_outside.ensures)
     (last_row refl c.refuse_if-6.ensures (rw (to_z-of_z c.ranges.error) at c.is_exceeding.ensures)))))))
 
 pub overflow_sub-n : goal.overflow_sub-n
 overflow_sub-n c = omega (arith, (answered_range _ c.in_range.ensures (was_false c.refuse_if.ensures c.in_ok-refuse_if.was)).n_low)
 
-pub is_outside-requires : goal.is_outside-requires
-is_outside-requires c = params_modulus (answered_range _ c.in_range.ensures (was_false c.refuse_if.ensures c.in_ok-refuse_if.was))
-
 pub is_bad_key-requires : goal.is_bad_key-requires
 is_bad_key-requires c = short (answered_range _ c.in_range.ensures (was_false c.refuse_if.ensures c.in_ok-refuse_if.was)) (sym c.length_differs.ensures ∙ or_left _ _ (or_left _ _ (was_false c.refuse_if-2.ensures c.in_ok-refuse_if-2.was)))
+
+pub of-q-requires : goal.of-q-requires
+of-q-requires c = params_modulus (answered_range _ c.in_range.ensures (was_false c.refuse_if.ensures c.in_ok-refuse_if.was))

@@ -10,14 +10,14 @@ use Rattle.regev.proofs.decrypt_bit.Goals as goal
 
 pub inner_product-requires : goal.inner_product-requires
 inner_product-requires c =
-    (c.requires.1, c.requires.2, residues_upto c.args.q 549755813888 c.args.c.now (omega (arith, c.requires.0.high)) c.requires.3)
+    (c.requires.0, c.requires.1, residues_upto c.args.q 549755813888 c.args.c.now (omega (arith, c.get.ensures.modulus.high)) c.requires.2)
 
 pub bit_of-requires : goal.bit_of-requires
 bit_of-requires c =
     let fits : SFits w64 c.inner_product.result = search rules in
     let d_is : c.of.result.0 ≡ centred c.args.q (inner c.args.s.now c.args.c.now) =
     c.of.ensures ∙ ap (centred c.args.q) (to_z-of_z fits ∙ c.inner_product.ensures) in
-    (c.requires.0, rw d_is (centred_half _ _ c.requires.0.positive))
+    rw d_is (centred_half _ _ c.get.ensures.modulus.positive)
 
 pub returns : goal.returns
 unfolding decrypt

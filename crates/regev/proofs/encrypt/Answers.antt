@@ -14,14 +14,19 @@ returns-in_err-check_encrypt c =
     (refused_by (encrypt_rows lent) (simp (to_z-of_z c.ranges.error) at c.check_encrypt.ensures) c.in_err-check_encrypt.was)
     (passed_up _ c.from_residual.ensures.1)
 
+pub of-requires : goal.of-requires
+of-requires c =
+    let lent = encrypt_loans c.args.p c.args.s.now c.args.bit c.args.mask.now c.args.error c.args.out.now in
+    (encrypt_ready lent (done_by (encrypt_rows lent) (simp (to_z-of_z c.ranges.error) at c.check_encrypt.ensures) c.in_ok-check_encrypt.was)).modulus
+
 pub encrypt_into-requires : goal.encrypt_into-requires
 encrypt_into-requires c =
     let lent = encrypt_loans c.args.p c.args.s.now c.args.bit c.args.mask.now c.args.error c.args.out.now in
-    rw (to_z-of_z c.ranges.error)
-    (encrypt_ready lent (done_by (encrypt_rows lent) (simp (to_z-of_z c.ranges.error) at c.check_encrypt.ensures) c.in_ok-check_encrypt.was))
+    rw (to_z-of_z c.ranges.error, c.of.ensures)
+    (encrypt_ready lent (done_by (encrypt_rows lent) (simp (to_z-of_z c.ranges.error) at c.check_encrypt.ensures) c.in_ok-check_encrypt.was)).into
 
 pub returns : goal.returns
 returns c =
     let lent = encrypt_loans c.args.p c.args.s.now c.args.bit c.args.mask.now c.args.error c.args.out.now in
     encrypt_done lent (done_by (encrypt_rows lent) (simp (to_z-of_z c.ranges.error) at c.check_encrypt.ensures) c.in_ok-check_encrypt.was)
-    refl (simp (to_z-of_z c.ranges.error) at c.encrypt_into.ensures)
+    refl (simp (to_z-of_z c.ranges.error, c.of.ensures) at c.encrypt_into.ensures)

@@ -18,11 +18,10 @@ switch_entry-requires c =
     let at : ℕ = c.loop-i.i * width in
     let key = c.args.key.now in
     let inside : at + width ≤ length key = omega (arith, row_ends width (length c.args.out.now) c.loop-i.i (omega arith)) in (
-      c.requires.0,
-      omega (arith, mul-le-mul c.requires.1 c.requires.1),
+      omega (arith, mul-le-mul c.requires.0 c.requires.0),
       mid_len at (at + width) key inside ∙ add-sub_cancel_left at width,
-      c.requires.4,
-      every_part (is_residue (q * q)) at (at + width - at) key c.requires.5,
+      c.requires.3,
+      every_part (is_residue (q * q)) at (at + width - at) key c.requires.4,
     )
 
 pub loop-i-preserved : goal.loop-i-preserved
@@ -41,4 +40,4 @@ loop-i-preserved c =
     ∙ c.value.ensures
     ∙ c.switch_entry.ensures
     ∙ ap (switch_entry q t) row
-    ∙ sym (get_or_switch n q (length t) key t i c.requires.2 h))
+    ∙ sym (get_or_switch n q (length t) key t i c.requires.1 h))

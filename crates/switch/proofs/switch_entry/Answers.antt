@@ -14,20 +14,20 @@ use Rattle.switch.proofs.switch_entry.Goals as goal
 pub row_sum-requires : goal.row_sum-requires
 row_sum-requires c =
     let q : ℕ = c.args.q in
-    let high = c.requires.0.high in (
+    let high = c.get.ensures.modulus.high in (
+      c.requires.0,
       c.requires.1,
-      c.requires.2,
-      residues_upto q 524288 c.args.t.now high c.requires.3,
-      residues_upto (q * q) 549755813888 c.args.row.now (mul-le-mul high high) c.requires.4,
+      residues_upto q 524288 c.args.t.now high c.requires.2,
+      residues_upto (q * q) 549755813888 c.args.row.now (mul-le-mul high high) c.requires.3,
     )
 
 -- the residue is that of the exact sum
 pub round-requires : goal.round-requires
 round-requires c =
     let q : ℕ = c.args.q in
-    let m = c.requires.0 in
+    let m = c.get.ensures.modulus in
     let sum : c.of_wide.result.0 ≡ centred (q * q) (inner c.args.t.now c.args.row.now) = c.of_wide.ensures ∙ ap (centred (q * q)) c.row_sum.ensures.0 in
-    (m, rw sum (centred_half _ _ (mul-pos m.positive m.positive)))
+    rw sum (centred_half _ _ (mul-pos m.positive m.positive))
 
 pub returns : goal.returns
 unfolding switch_entry
@@ -35,4 +35,4 @@ returns c =
     let q : ℕ = c.args.q in
     let S : ℤ = inner c.args.t.now c.args.row.now in
     let sum : c.of_wide.result.0 ≡ centred (q * q) S = c.of_wide.ensures ∙ ap (centred (q * q)) c.row_sum.ensures.0 in
-    c.round.ensures ∙ ap (λ (x : ℤ). centred q (round x q)) sum ∙ entry_reduced q S c.requires.0.positive
+    c.round.ensures ∙ ap (λ (x : ℤ). centred q (round x q)) sum ∙ entry_reduced q S c.get.ensures.modulus.positive

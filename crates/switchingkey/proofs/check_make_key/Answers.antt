@@ -34,7 +34,7 @@ returns-in_err-refuse_if-4 c =
     (goes_on c.refuse_if.ensures c.in_ok-refuse_if.was (ap not c.in_range.ensures)
     (goes_on c.refuse_if-2.ensures c.in_ok-refuse_if-2.was (or_same (or_same (or_same c.length_differs.ensures c.length_differs-2.ensures) c.length_differs-3.ensures) c.length_differs-4.ensures)
     (goes_on c.refuse_if-3.ensures c.in_ok-refuse_if-3.was (c.is_bad_key.ensures)
-    (refuses refl c.refuse_if-4.ensures c.in_err-refuse_if-4.was (c.is_outside_big.ensures) c.from_residual-in_err-refuse_if-4.ensures.1))))
+    (refuses refl c.refuse_if-4.ensures c.in_err-refuse_if-4.was (rw c.of-q.ensures at c.is_outside_big.ensures) c.from_residual-in_err-refuse_if-4.ensures.1))))
 
 pub returns : goal.returns
 unfolding make_key_rows bad_params
@@ -43,7 +43,7 @@ returns c =
     (goes_on c.refuse_if.ensures c.in_ok-refuse_if.was (ap not c.in_range.ensures)
     (goes_on c.refuse_if-2.ensures c.in_ok-refuse_if-2.was (or_same (or_same (or_same c.length_differs.ensures c.length_differs-2.ensures) c.length_differs-3.ensures) c.length_differs-4.ensures)
     (goes_on c.refuse_if-3.ensures c.in_ok-refuse_if-3.was (c.is_bad_key.ensures)
-    (goes_on c.refuse_if-4.ensures c.in_ok-refuse_if-4.was (c.is_outside_big.ensures)
+    (goes_on c.refuse_if-4.ensures c.in_ok-refuse_if-4.was (rw c.of-q.ensures at c.is_outside_big.ensures)
     (last_row refl c.refuse_if-5.ensures (c.is_exceeding.ensures))))))
 
 pub overflow_sub-n : goal.overflow_sub-n
@@ -60,8 +60,8 @@ overflow_mul-n-2 c =
     let high = (answered_range _ c.in_range.ensures (was_false c.refuse_if.ensures c.in_ok-refuse_if.was)).n_high in
     omega (arith, mul-le-mul high (mul-le-mul high high))
 
-pub is_outside_big-requires : goal.is_outside_big-requires
-is_outside_big-requires c = params_modulus (answered_range _ c.in_range.ensures (was_false c.refuse_if.ensures c.in_ok-refuse_if.was))
-
 pub is_bad_key-requires : goal.is_bad_key-requires
 is_bad_key-requires c = short (answered_range _ c.in_range.ensures (was_false c.refuse_if.ensures c.in_ok-refuse_if.was)) (sym c.length_differs.ensures ∙ or_left _ _ (or_left _ _ (or_left _ _ (was_false c.refuse_if-2.ensures c.in_ok-refuse_if-2.was))))
+
+pub of-q-requires : goal.of-q-requires
+of-q-requires c = params_modulus (answered_range _ c.in_range.ensures (was_false c.refuse_if.ensures c.in_ok-refuse_if.was))

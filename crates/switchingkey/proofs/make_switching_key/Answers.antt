@@ -21,11 +21,16 @@ slice_bounds-fill_row_zero-end c =
     let r = make_key_ready a (done_by (make_key_rows a) c.check_make_key.ensures c.in_ok-check_make_key.was) in
     omega (arith, r.room)
 
+pub of-requires : goal.of-requires
+of-requires c =
+    let a = make_key_loans c.args.p c.args.s.now c.args.masks.now c.args.errors.now c.args.out.now in
+    (make_key_ready a (done_by (make_key_rows a) c.check_make_key.ensures c.in_ok-check_make_key.was)).modulus
+
 pub fill_row_zero-requires : goal.fill_row_zero-requires
 fill_row_zero-requires c =
     let a = make_key_loans c.args.p c.args.s.now c.args.masks.now c.args.errors.now c.args.out.now in
     let r = make_key_ready a (done_by (make_key_rows a) c.check_make_key.ensures c.in_ok-check_make_key.was) in
-    fill_ready r _ (simp length-take (omega (arith, r.room)))
+    rw c.of.ensures (fill_ready r _ (simp length-take (omega (arith, r.room))))
 
 -- row 0 is written, and what lies after it is as long as the masks
 pub copy_from_slice-requires : goal.copy_from_slice-requires
@@ -47,4 +52,4 @@ returns c =
     let row_long : length c.fill_row_zero.new.out ≡ k = ap length c.fill_row_zero.ensures ∙ length_tabulate _ _ ∙ sym r.errors_long in
     let rest = drop (k - 0) a.result in
     make_key_done a c.check_make_key.ensures c.in_ok-check_make_key.was
-    (rw c.copy_from_slice.ensures.after (two_parts c.fill_row_zero.new.out a.masks rest k row_long ∙ rw (c.fill_row_zero.ensures, r.count)))
+    (rw c.copy_from_slice.ensures.after (two_parts c.fill_row_zero.new.out a.masks rest k row_long ∙ rw (c.fill_row_zero.ensures, c.of.ensures, r.count)))

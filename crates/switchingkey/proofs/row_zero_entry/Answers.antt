@@ -8,7 +8,7 @@ use Rattle.whole.specs.Size.{size_add, size_sub, size_mul}
 use Rattle.whole.specs.Machine.{word, word_is, widened, fits64}
 use Rattle.whole.specs.Inner.{inner, inner_size, sizes, sizes_drop, entry_size, each_column_cut}
 use Rattle.scheme.specs.Arithmetic.{mask_column}
-use Rattle.scheme.specs.Loans.{UpTo}
+use Rattle.scheme.specs.Loans.{Modulus, UpTo}
 use Rattle.switchingkey.specs.Ready.{RowZeroEntryReady}
 use Rattle.switchingkey.proofs.row_zero_entry.Goals as goal
 
@@ -24,7 +24,7 @@ rest : (s : List ℤ) → take (length s - 1) (drop 1 s) ≡ drop 1 s
 rest s = take_all (length s - 1) (drop 1 s) (omega (arith, length-drop 1 s))
 
 -- at any places u and v of the key, and as the machine has them
-module _ {q : ℕ} {s masks : List ℤ} {error : ℤ} {j : ℕ} (r : RowZeroEntryReady q s masks error j) (u v : ℕ) where
+module _ {q : ℕ} {s masks : List ℤ} {error : ℤ} {j : ℕ} (m : Modulus q) (r : RowZeroEntryReady q s masks error j) (u v : ℕ) where
   abbrev entry : ℕ → ℤ
   entry k = get_or s k (pos 0)
 
@@ -33,7 +33,7 @@ module _ {q : ℕ} {s masks : List ℤ} {error : ℤ} {j : ℕ} (r : RowZeroEntr
 
   -- q·su
   first_small : nat_abs (pos q *ℤ entry u) ≤ 4294967296
-  first_small = omega (arith, size_mul (pos q) (entry u), mul-le-mul r.row.modulus.high (entry_small u))
+  first_small = omega (arith, size_mul (pos q) (entry u), mul-le-mul m.high (entry_small u))
 
   first_fits : SFits w64 (pos q *ℤ entry u)
   first_fits = fits64 _ (omega (arith, first_small))
@@ -42,7 +42,7 @@ module _ {q : ℕ} {s masks : List ℤ} {error : ℤ} {j : ℕ} (r : RowZeroEntr
   machine_first = to_z w64 q *ℤ word w64 (word w32 (entry u))
 
   first_is : SFits w32 (entry u) → machine_first ≡ pos q *ℤ entry u
-  first_is f = ap₂ ◌*ℤ◌ (to_z_pos w64 {n = q} (omega (arith, r.row.modulus.high))) (widened f)
+  first_is f = ap₂ ◌*ℤ◌ (to_z_pos w64 {n = q} (omega (arith, m.high))) (widened f)
 
   machine_first_fits : SFits w32 (entry u) → SFits w64 machine_first
   machine_first_fits f = rw (first_is f) first_fits
@@ -103,10 +103,10 @@ module _ {q : ℕ} {s masks : List ℤ} {error : ℤ} {j : ℕ} (r : RowZeroEntr
     machine_total_fits h = rw (total_is h) total_fits
 
 pub overflow_mul-product : goal.overflow_mul-product
-overflow_mul-product c = machine_first_fits c.requires _ 0 (search rules)
+overflow_mul-product c = rw c.get.ensures.value (machine_first_fits c.get.ensures.modulus c.requires _ 0 (search rules))
 
 pub overflow_mul-product-2 : goal.overflow_mul-product-2
-overflow_mul-product-2 c = machine_product_fits c.requires _ _ (search rules) (search rules)
+overflow_mul-product-2 c = rw c.get.ensures.value (machine_product_fits c.get.ensures.modulus c.requires _ _ (search rules) (search rules))
 
 pub inner_column-requires : goal.inner_column-requires
 inner_column-requires c =
@@ -116,15 +116,15 @@ inner_column-requires c =
 
 pub overflow_sub-product : goal.overflow_sub-product
 unfolding mask_column
-overflow_sub-product c = machine_less_fits c.requires _ _ (search rules) (search rules) (c.inner_column.ensures ∙ simp (rest, length-drop))
+overflow_sub-product c = rw c.get.ensures.value (machine_less_fits c.get.ensures.modulus c.requires _ _ (search rules) (search rules) (c.inner_column.ensures ∙ simp (rest, length-drop)))
 
 pub overflow_add-product : goal.overflow_add-product
 unfolding mask_column
-overflow_add-product c = machine_total_fits c.requires _ _ (search rules) (search rules) (c.inner_column.ensures ∙ simp (rest, length-drop)) c.ranges.error
+overflow_add-product c = rw c.get.ensures.value (machine_total_fits c.get.ensures.modulus c.requires _ _ (search rules) (search rules) (c.inner_column.ensures ∙ simp (rest, length-drop)) c.ranges.error)
 
 pub returns : goal.returns
 unfolding mask_column
 returns c =
-    c.of.ensures
+    (rw c.get.ensures.value at c.of.ensures)
     ∙ ap (centred _)
-    (word_is (total_is c.requires _ _ (search rules) (search rules) (c.inner_column.ensures ∙ simp (rest, length-drop)) c.ranges.error) (total_fits c.requires _ _))
+    (word_is (total_is c.get.ensures.modulus c.requires _ _ (search rules) (search rules) (c.inner_column.ensures ∙ simp (rest, length-drop)) c.ranges.error) (total_fits c.get.ensures.modulus c.requires _ _))

@@ -111,42 +111,42 @@ module _ {q : ℕ} {x r : ℤ} (lent : Lent q x r) where
 
 pub overflow_mul-slope : goal.overflow_mul-slope
 overflow_mul-slope c =
-    let lent = lends c.requires.0 c.requires.1 c.requires.2 c.ranges.x c.ranges.reciprocal in
+    let lent = lends c.get.ensures.modulus c.requires.0 c.requires.1 c.ranges.x c.ranges.reciprocal in
     rw (to_z-of_z c.ranges.x, reciprocal_back lent) (product_fits lent)
 
 pub overflow_mul-slope-in-loop-v : goal.overflow_mul-slope-in-loop-v
 overflow_mul-slope-in-loop-v c =
-    let lent = lends c.requires.0 c.requires.1 c.requires.2 c.ranges.x c.ranges.reciprocal in
+    let lent = lends c.get.ensures.modulus c.requires.0 c.requires.1 c.ranges.x c.ranges.reciprocal in
     let y : ℤ = get_or c.args.d.now c.loop-v.v (pos 0) in
     let y_fits : SFits w64 y = search rules in
-    machine_product_fit lent y y_fits (every_get_or _ _ _ (pos 0) c.requires.3 c.loop-v-test.true)
+    machine_product_fit lent y y_fits (every_get_or _ _ _ (pos 0) c.requires.2 c.loop-v-test.true)
 
 pub overflow_add-slope : goal.overflow_add-slope
 overflow_add-slope c =
-    let lent = lends c.requires.0 c.requires.1 c.requires.2 c.ranges.x c.ranges.reciprocal in
+    let lent = lends c.get.ensures.modulus c.requires.0 c.requires.1 c.ranges.x c.ranges.reciprocal in
     let y : ℤ = get_or c.args.d.now c.loop-v.v (pos 0) in
     let y_fits : SFits w64 y = search rules in
-    search (machine_fit lent y y_fits (every_get_or _ _ _ (pos 0) c.requires.3 c.loop-v-test.true), lit≤)
+    rw c.get.ensures.value (search (machine_fit lent y y_fits (every_get_or _ _ _ (pos 0) c.requires.2 c.loop-v-test.true), lit≤))
 
 pub up_to_half-requires : goal.up_to_half-requires
 up_to_half-requires c =
-    let lent = lends c.requires.0 c.requires.1 c.requires.2 c.ranges.x c.ranges.reciprocal in
+    let lent = lends c.get.ensures.modulus c.requires.0 c.requires.1 c.ranges.x c.ranges.reciprocal in
     let y : ℤ = get_or c.args.d.now c.loop-v.v (pos 0) in
     let y_fits : SFits w64 y = search rules in
-    (c.requires.0, search (machine_small lent y y_fits (every_get_or _ _ _ (pos 0) c.requires.3 c.loop-v-test.true), lit≤))
+    rw c.get.ensures.value (search (machine_small lent y y_fits (every_get_or _ _ _ (pos 0) c.requires.2 c.loop-v-test.true), lit≤))
 
 pub loop-v-preserved : goal.loop-v-preserved
 loop-v-preserved c =
-    let lent = lends c.requires.0 c.requires.1 c.requires.2 c.ranges.x c.ranges.reciprocal in
+    let lent = lends c.get.ensures.modulus c.requires.0 c.requires.1 c.ranges.x c.ranges.reciprocal in
     let y : ℤ = get_or c.args.d.now c.loop-v.v (pos 0) in
     let y_fits : SFits w64 y = search rules in
-    let y_residue : is_residue c.args.q y ≡ true = every_get_or _ _ _ (pos 0) c.requires.3 c.loop-v-test.true in
+    let y_residue : is_residue c.args.q y ≡ true = every_get_or _ _ _ (pos 0) c.requires.2 c.loop-v-test.true in
     let f = tensor_entry c.args.q (word w64 c.args.x) in
     let read : SFits w64 c.value.result = search rules in
     fill_step c.loop-v.invariant _ (pos 0) (omega arith)
     (to_z-of_z read
     ∙ c.value.ensures
-    ∙ c.up_to_half.ensures
+    ∙ rw c.get.ensures.value at c.up_to_half.ensures
     ∙ ap (centred c.args.q) (whole_back lent y y_fits y_residue 2199023255552 (omega arith) 4398046511104 (omega arith))
     ∙ entry lent y y_fits y_residue
     ∙ rw (get_or_map f c.args.d.now c.loop-v.v (pos 0) (pos 0) c.loop-v-test.true, to_z-of_z c.ranges.x))

@@ -1,13 +1,14 @@
 -- `fill_tensor` writes the tensor of c and d, row after row. A turn lends the part of one row to `fill_row`, which gives it back as row u. Assumes nothing.
 use Rattle.std.proofs.Common.{◌≡◌, map, ◌+◌, ◌*◌, ◌/◌, ◌≤◌, ◌<◌, ℕ, List, length, get_or, take, drop, sym, ap, ◌∙◌, add-one, suc-mul, arith, rules, w64, SFits, ℤ, pos, to_z, of_z, to_z-of_z}
-use Rattle.std.proofs.Math.Nat.{add-sub_cancel_left, div-le_self, zero-mul}
+use Rattle.std.proofs.Math.Nat.{mul-le-mul, add-sub_cancel_left, div-le_self, zero-mul}
 use Rattle.std.proofs.Math.Facts.{to_z_pos}
 use Rattle.std.specs.Int.Signed.{quot_z}
 use borrow.Rule.Slice.PartMut.{mid_len}
 use Rattle.whole.specs.Machine.{fits64}
-use Rattle.whole.specs.Lists.{every_get_or, length_grid, grid_row, row_ends, fill_start, fill_part}
+use Rattle.whole.specs.Lists.{every_get_or, length_grid, grid_row, row_ends, fill_start, fill_part, fill_end}
 use Rattle.scheme.specs.Arithmetic.{tensor_entry, tensor}
 use Rattle.scheme.specs.Loans.{Modulus}
+use Rattle.scheme.specs.Wording.{tensor_residues}
 use Rattle.tensor.specs.Lines.{reciprocal_of}
 use Rattle.tensor.proofs.fill_tensor.Goals as goal
 
@@ -27,7 +28,7 @@ reciprocal_back q m =
     rw half (to_z-of_z (fits64 (pos (reciprocal_of q)) (omega (arith, div-le_self 4611686018427387904 (q / 2)))))
 
 pub loop-u-init : goal.loop-u-init
-loop-u-init c = rw zero-mul (fill_start _ _ (rw (tensor_length, c.requires.3)))
+loop-u-init c = rw zero-mul (fill_start _ _ (rw (tensor_length, c.requires.2)))
 
 pub fill_row-requires : goal.fill_row-requires
 fill_row-requires c =
@@ -35,10 +36,9 @@ fill_row-requires c =
     let at : ℕ = c.loop-u.u * n in
     let x_fits : SFits w64 (get_or c.args.c.now c.loop-u.u (pos 0)) = search rules in
     let inside : at + n ≤ length c.loop-u.out = omega (arith, row_ends n (length c.args.c.now) c.loop-u.u c.loop-u-test.true) in (
-      c.requires.0,
-      rw (to_z-of_z x_fits) (every_get_or _ _ _ (pos 0) c.requires.1 c.loop-u-test.true),
-      reciprocal_back _ c.requires.0,
-      c.requires.2,
+      rw (to_z-of_z x_fits) (every_get_or _ _ _ (pos 0) c.requires.0 c.loop-u-test.true),
+      rw c.get.ensures.value (reciprocal_back _ c.get.ensures.modulus),
+      c.requires.1,
       mid_len at (at + n) c.loop-u.out inside ∙ add-sub_cancel_left at n,
     )
 
@@ -57,3 +57,10 @@ loop-u-preserved c =
     (c.fill_row.ensures
     ∙ ap (λ (x : ℤ). map (tensor_entry q x) d) (to_z-of_z x_fits)
     ∙ sym (tensor_row q e d u c.loop-u-test.true)))
+
+-- every entry is a residue
+pub returns-clause-residues : goal.returns-clause-residues
+returns-clause-residues c =
+    let m = c.get.ensures.modulus in
+    let all : length c.args.out.now ≤ c.loop-u.u * length c.args.d.now = rw c.requires.2 (mul-le-mul (omega arith) (omega arith)) in
+    rw (fill_end c.loop-u.invariant all) (tensor_residues _ _ _ m.positive m.even)

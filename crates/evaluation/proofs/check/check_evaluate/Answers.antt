@@ -99,12 +99,6 @@ slice_bounds-is_outside-end g c =
     c.length_differs-3.ensures c.length_differs-4.ensures in
     sym (length-take-le _ _ (inputs_inside loans lengths (was_false c.refuse_if-3.ensures c.in_ok-refuse_if-3.was)))
 
-pub is_outside-requires : goal.is_outside-requires
-is_outside-requires g c = params_modulus (answered_range _ c.in_range.ensures (was_false c.refuse_if.ensures c.in_ok-refuse_if.was))
-
-pub is_outside_big-requires : goal.is_outside_big-requires
-is_outside_big-requires g c = params_modulus (answered_range _ c.in_range.ensures (was_false c.refuse_if.ensures c.in_ok-refuse_if.was))
-
 pub returns : goal.returns
 unfolding evaluate_front
 returns g c =
@@ -114,4 +108,7 @@ returns g c =
     (goes_on c.refuse_if-3.ensures c.in_ok-refuse_if-3.was
     (lengths_same c.is_uneven.ensures (rw c.count-gates.ensures at c.length_differs.ensures) (rw c.count-gates.ensures at c.length_differs-2.ensures)
     c.length_differs-3.ensures c.length_differs-4.ensures)
-    (last_row refl c.refuse_if-4.ensures (or_same c.is_outside.ensures c.is_outside_big.ensures)))))
+    (last_row refl c.refuse_if-4.ensures (rw c.of-q.ensures at (or_same c.is_outside.ensures c.is_outside_big.ensures))))))
+
+pub of-q-requires : goal.of-q-requires
+of-q-requires g c = params_modulus (answered_range _ c.in_range.ensures (was_false c.refuse_if.ensures c.in_ok-refuse_if.was))

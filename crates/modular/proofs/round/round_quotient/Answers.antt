@@ -6,4 +6,4 @@ use Rattle.modular.proofs.round.round_quotient.Goals as goal
 pub returns : goal.returns
 returns c =
     let read : SFits w64 c.div_euclid.result = search rules in
-    to_z-of_z read ∙ c.div_euclid.ensures ∙ rw c.from-modulus.ensures (rounds c.args.q c.args.a c.requires.0 c.requires.1 c.ranges.a)
+    to_z-of_z read ∙ c.div_euclid.ensures ∙ rw c.from-modulus.ensures (rw c.get.ensures.value (rounds c.args.q c.args.a c.get.ensures.modulus c.requires c.ranges.a))

@@ -8,4 +8,4 @@ use Rattle.passes.proofs.range.all_big_residues.Goals as goal
 pub returns : goal.returns
 returns c =
     c.all_below.ensures
-    ∙ ap (λ (m : ℕ). every (is_residue m) c.args.xs.now) (rw c.from-wide.ensures (sym (square c.requires).even))
+    ∙ ap (λ (m : ℕ). every (is_residue m) c.args.xs.now) (rw (c.from-wide.ensures, c.get.ensures.value) (sym (square c.get.ensures.modulus).even))

@@ -55,20 +55,20 @@ module _ (q : ℕ) (hi lo : ℤ) (modulus : Modulus q) (hi_fits : SFits w64 hi) 
 
 pub overflow_mul-wide : goal.overflow_mul-wide
 overflow_mul-wide c =
-    let m = c.requires.0 in
+    let m = c.get-wide.ensures.modulus in
     let back : to_z w64 c.args.q ≡ pos c.args.q = to_z_pos w64 (omega (arith, m.high)) in
-    rw back (fits64 _ (omega (arith, (square m).high)))
+    rw (c.get-wide.ensures.value, back) (fits64 _ (omega (arith, (square m).high)))
 
 pub nonzero_rem-x : goal.nonzero_rem-x
 nonzero_rem-x c =
     let q = c.args.q in
     let hi = c.args.x.hi in
     let lo = c.args.x.lo in
-    let m = c.requires.0 in
-    let s = c.requires.1 in
+    let m = c.get-wide.ensures.modulus in
+    let s = c.requires in
     let held : SFits w64 hi = search rules in (
-      rw (q_back q hi lo m held s) (square m).positive,
-      simp (q_back q hi lo m held s, Q_back q hi lo m held s, to_z-of_z, held) (quot_fits hi (q * q) held),
+      rw (c.get-wide.ensures.value, q_back q hi lo m held s) (square m).positive,
+      simp (c.get-wide.ensures.value, q_back q hi lo m held s, Q_back q hi lo m held s, to_z-of_z, held) (quot_fits hi (q * q) held),
     )
 
 pub overflow_mul-x : goal.overflow_mul-x
@@ -76,10 +76,10 @@ overflow_mul-x c =
     let q = c.args.q in
     let hi = c.args.x.hi in
     let lo = c.args.x.lo in
-    let m = c.requires.0 in
-    let s = c.requires.1 in
+    let m = c.get-wide.ensures.modulus in
+    let s = c.requires in
     let held : SFits w64 hi = search rules in
-    simp (q_back q hi lo m held s, Q_back q hi lo m held s, to_z-of_z, held, rest_fits q hi lo m held s)
+    simp (c.get-wide.ensures.value, q_back q hi lo m held s, Q_back q hi lo m held s, to_z-of_z, held, rest_fits q hi lo m held s)
     (search (scaled_fits q hi lo m held s, lit≤))
 
 pub overflow_add-x : goal.overflow_add-x
@@ -87,10 +87,10 @@ overflow_add-x c =
     let q = c.args.q in
     let hi = c.args.x.hi in
     let lo = c.args.x.lo in
-    let m = c.requires.0 in
-    let s = c.requires.1 in
+    let m = c.get-wide.ensures.modulus in
+    let s = c.requires in
     let held : SFits w64 hi = search rules in
-    simp (q_back q hi lo m held s, Q_back q hi lo m held s, to_z-of_z, held, rest_fits q hi lo m held s, lo_fits q hi lo m held s)
+    simp (c.get-wide.ensures.value, q_back q hi lo m held s, Q_back q hi lo m held s, to_z-of_z, held, rest_fits q hi lo m held s, lo_fits q hi lo m held s)
     (search (machine_fits q hi lo m held s, lit≤))
 
 pub returns : goal.returns
@@ -98,10 +98,11 @@ returns c =
     let q = c.args.q in
     let hi = c.args.x.hi in
     let lo = c.args.x.lo in
-    let m = c.requires.0 in
-    let s = c.requires.1 in
+    let m = c.get-wide.ensures.modulus in
+    let s = c.requires in
     let held : SFits w64 hi = search rules in
     simp (
+      c.get-wide.ensures.value,
       q_back q hi lo m held s,
       Q_back q hi lo m held s,
       to_z-of_z,

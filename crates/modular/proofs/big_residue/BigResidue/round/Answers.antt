@@ -18,4 +18,4 @@ up_to_half-requires c =
     let held : SFits w64 c.args.self.0 = search rules in
     let read : SFits w64 c.round_quotient.result = search rules in
     let rounded : word w64 c.round_quotient.result ≡ round c.args.self.0 c.args.q = to_z-of_z read ∙ simp (to_z-of_z held) at c.round_quotient.ensures in
-    (c.requires.0, rw rounded (half_size _ _ c.requires.0 c.requires.1))
+    rw rounded (half_size _ _ c.get.ensures.modulus c.requires)

@@ -1,5 +1,5 @@
 -- `Wide::plus`: x is its quotient by 2^20 times 2^20 and its remainder (`quot_rem`), which the two parts take. Assumes nothing.
-use Rattle.std.proofs.Common.{◌≡◌, sym, ap, ◌∙◌, [], ◌∷◌, ◌≤◌, arith, rules, ℤ, pos, ◌+ℤ◌, ◌*ℤ◌, nat_abs, w64, SFits, to_z-of_z}
+use Rattle.std.proofs.Common.{◌≡◌, sym, ap, ◌∙◌, [], ◌∷◌, arith, rules, ℤ, pos, ◌+ℤ◌, ◌*ℤ◌, w64, SFits, to_z-of_z}
 use Rattle.std.specs.Int.Signed.{quot_z, rem_z}
 use Rattle.whole.specs.Size.{size_add}
 use Rattle.whole.specs.Ring.{by_ring, quote}
