@@ -1,4 +1,4 @@
--- `guard::all_up_to`: `every` is the library's `list_all`. Assumes nothing.
+-- `guard::all_up_to`: the pass is the library's, and `every` says the same (`every_all`). Assumes nothing.
 use Rattle.std.proofs.Common.{◌∙◌, rules, tests}
 use Rattle.std.proofs.lemmas.Iterator.{YieldsList-from_slice}
 use Rattle.std.proofs.lemmas.Iterator.Search.{all_from_yields_List}

@@ -1,4 +1,4 @@
--- `range::all_within`: `every` is the library's `list_all`.
+-- `range::all_within`: the pass is the library's, and `every` says the same (`every_all`).
 use Rattle.std.proofs.Common.{◌∙◌, rules, tests, nat_le, unsigned_abs}
 use Rattle.std.proofs.lemmas.Iterator.{YieldsList-from_slice}
 use Rattle.std.proofs.lemmas.Iterator.Search.{all_from_yields_List}
