@@ -6,9 +6,6 @@ ghost use Rattle.refusal.specs.Answer.{refusal_number, refusal_place, RefusesWhe
 ghost use Rattle.refusal.specs.First.{done_or};
 ghost use Rattle.refusal.specs.Parameters.{params, no_params, within, in_range, sheet, make_number, sheet_number, made_number, made_place, made_params, made, made_sheet};
 
-use std::error::Error;
-use std::fmt;
-
 // Why a call refuses, one for each refusal number. Of a circuit's gates it says which: the first gate that is wrong, or whose bound does not fit.
 #[derive(Clone, Copy, Debug, PartialEq, Eq)]
 pub enum Refusal {
@@ -57,36 +54,6 @@ impl Refusal {
         }
     }
 }
-
-impl fmt::Display for Refusal {
-    fn fmt<W: fmt::Write>(&self, f: &mut fmt::Formatter<W>) -> fmt::Result {
-        match self {
-            Refusal::Parameters => f.write_str("a parameter or sheet is outside its range"),
-            Refusal::Counts => f.write_str("the count of inputs or gates is outside its range"),
-            Refusal::Length => f.write_str("a lent buffer's length differs from the one required"),
-            Refusal::Key => f.write_str("the key does not begin with 1, or its sum exceeds L"),
-            Refusal::Bit => f.write_str("a bit is neither 0 nor 1"),
-            Refusal::Entry => {
-                f.write_str("a mask, ciphertext or switching entry is outside its range")
-            }
-            Refusal::Error => f.write_str("a lent error exceeds its limit"),
-            Refusal::Bound => f.write_str("four times a stated bound is at or above q"),
-            Refusal::Gate(gate) => {
-                write!(
-                    f,
-                    "the kind, an operand or NOT's right of gate {gate} is wrong"
-                )
-            }
-            Refusal::Budget(gate) => {
-                write!(f, "four times the bound of gate {gate} is at or above q")
-            }
-            Refusal::Mark => f.write_str("the file's mark or version is unknown"),
-            Refusal::FileLength => f.write_str("the file's length is wrong"),
-        }
-    }
-}
-
-impl Error for Refusal {}
 
 // A row of a call's refusals: where it applies the call refuses, and otherwise it goes on.
 pub fn refuse_if(applies: bool, refusal: Refusal) -> Result<(), Refusal>

@@ -1,3 +1,4 @@
 pub mod Held
 pub mod Lettered
 pub mod Witness
+pub mod Numbers
