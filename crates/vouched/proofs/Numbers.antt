@@ -30,7 +30,7 @@ module _ {k : ℕ} {b t : Bool} {rows : List Row} where
   pub passes : {n : ℕ} → b ≡ t → b ≡ false → Gives rows n → Gives (row k t ∷ rows) n
   passes e f later = record { number = rw (first_row, ← e, f) later.number }
 
-  -- `refusal::row` answers, from the number m of the rows after it
+  -- a row answers, from the number m of the rows after it
   pub asks : {n m : ℕ} → n ≡ cond b k m → b ≡ t → Gives rows m → Gives (row k t ∷ rows) n
   asks n-is e later = record { number = rw (first_row, ← e, ← later.number) n-is }
 
