@@ -28,6 +28,7 @@ fn bench_sheet() -> Params
 pub fn check_bench_key(s: &[i32], masks: &[i64], errors: &[i64]) -> Result<(), Refusal>
     ensures { BenchCheckPromise s.now masks.now errors.now (answer_to result) }
 {
+    // The 64 entries of sheet 1's switching key, and an array, since nothing allocates.
     let mut room = [0i64; 64];
     make_switching_key(bench_sheet(), s, masks, errors, &mut room)
 }
@@ -36,8 +37,8 @@ pub fn check_bench_key(s: &[i32], masks: &[i64], errors: &[i64]) -> Result<(), R
 pub fn make_bench_key(s: &[i32], masks: &[i64], errors: &[i64]) -> [[i64; 16]; 4]
     ensures { BenchKeyPromise s.now masks.now errors.now result }
 {
+    // As many, an array again. A refused key is the zeros that it finds.
     let mut key = [0i64; 64];
-    // A refused key is the zeros that it finds.
     let _ = make_switching_key(bench_sheet(), s, masks, errors, &mut key);
     let (rows, _) = key.as_chunks::<16>();
     [rows[0], rows[1], rows[2], rows[3]]

@@ -44,6 +44,7 @@ pub fn first_wrong<C: Gates>(inputs: u32, circuit: &C) -> Option<usize>
     requires { CircuitReady inputs (C.lent circuit.now) }
     ensures { IsFirstTrue (wrong_gates inputs (C.lent circuit.now).gates) result }
 {
+    // By number: a circuit gives its gates so, and the number is what is answered.
     for g in 0..circuit.count() {
         if is_wrong(inputs + g as u32, circuit.gate(g)) {
             return Some(g);

@@ -1,4 +1,5 @@
-// Evaluating a circuit of XOR, AND and NOT gates on encrypted wires.
+// Evaluating a circuit of XOR, AND and NOT gates on encrypted wires. The loans wires, bounds, key and scratch are the paper's and C's, one by one, and no struct: the
+// promise (`EvaluateLoans`) names each.
 #![tactic(auto)]
 
 mod check;

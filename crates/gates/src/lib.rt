@@ -1,5 +1,6 @@
 // XOR, NOT and AND: document 01's *XOR*, *NOT* and *AND*. What each call answers and writes is defined in the crate scheme, and what the functions that it works
-// by ask here. Every call takes arbitrary numbers and buffers and refuses bad ones by number; those functions, which a circuit calls too, stand beside it.
+// by ask here. Every call takes arbitrary numbers and buffers and refuses bad ones with a `Refusal`; those functions, which a circuit calls too, stand beside it.
+// The loans c, b1, d, b2 and out are the paper's and C's, one by one, and no struct: the promises (`XorLoans` and its like) name each.
 #![tactic(auto)]
 
 ghost use Rattle.std.specs.Prelude.{◌≡◌, length};
@@ -22,6 +23,7 @@ pub fn xor_into(q: Modulus, c: &[i64], d: &[i64], out: &mut [i64])
 {
     // q is at most 2^20, so that no sum of two entries wraps
     let _ = q.get();
+    // c and d by index: tried by a zip, and what an `iter_mut` in a zip leaves in the buffer is known to no proof, so that `returns` was left open.
     for (i, x) in out.iter_mut().enumerate() {
         *x = Residue::near(c[i] + d[i], q).value();
     }
@@ -82,7 +84,7 @@ pub fn xor(
     Ok(bound)
 }
 
-// The bound of a NOT into `out`, or why it is refused: 1, 3, 6, 8.
+// The bound of a NOT into `out`, or why it is refused: 1, 3, 6, 8. Decryption's check begins alike; it tests a key, 4, and no bound, 8.
 fn check_not(p: Params, c: &[i64], bound: u32, out: &[i64]) -> Result<u32, Refusal>
     ensures { bounded_of result ≡ not_answer (not_loans p c.now bound out.now) }
 {

@@ -1,5 +1,5 @@
-// The check of a key, and the tests that the refusals of all calls are made of. Every call takes arbitrary numbers and buffers and refuses bad ones by
-// number; the function that it works by stands beside it.
+// The check of a key, and the tests that the refusals of all calls are made of. Every call takes arbitrary numbers and buffers and refuses bad ones
+// with a `Refusal`.
 #![tactic(auto)]
 
 pub mod tests;

@@ -19,7 +19,7 @@ pub fn is_bad_key(l: u32, s: &[i32]) -> bool
     requires { length s.now ≤ 1024 }
     ensures { result ≡ bad_key l s.now }
 {
-    if s.len() == 0 {
+    if s.is_empty() {
         return true;
     }
     !((s[0] == 1) & (sum_of_sizes(s) <= (l as u64)))
@@ -41,7 +41,7 @@ pub fn is_outside(q: Modulus, xs: &[i64]) -> bool
     !all_residues(xs, q)
 }
 
-// 6: an entry is outside -Q/2 to Q/2-1.
+// 6: an entry is outside -Q/2 to Q/2-1. It is `is_outside` with Q for q, and no one function has both: a modulus is at most 2^20, and Q can be more.
 #[tactic(auto, unfolding(scheme::specs::Calls::outside))]
 pub fn is_outside_big(q: Modulus, xs: &[i64]) -> bool
     ensures { result ≡ outside (q * q) xs.now }
@@ -62,5 +62,5 @@ pub fn is_exceeding(limit: u32, errors: &[i64]) -> bool
 pub fn is_over(q: u32, bound: u64) -> bool
     ensures { result ≡ over_budget q bound }
 {
-    ((q as u64) + 3) / 4 <= bound
+    u64::from(q).div_ceil(4) <= bound
 }

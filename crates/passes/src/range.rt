@@ -29,7 +29,7 @@ pub fn all_residues(xs: &[i64], q: Modulus) -> bool
     all_below(xs, u64::from(q.get()) / 2)
 }
 
-// Whether every entry is in -Q/2 to Q/2-1, with Q = q².
+// Whether every entry is in -Q/2 to Q/2-1, with Q = q². What the two have in common is `all_below`; a `Modulus` is at most 2^20, and Q can be more.
 pub fn all_big_residues(xs: &[i64], q: Modulus) -> bool
     ensures { result ≡ every (is_residue (q * q)) xs.now }
 {

@@ -1,5 +1,5 @@
 // Encryption and decryption: document 01's *Encrypt* and *Decrypt*. What each call answers and writes is defined in the crate scheme, and what encryption's
-// worker asks here. Every call takes arbitrary numbers and buffers and refuses bad ones by number; the functions that it works by stand beside it.
+// worker asks here. Every call takes arbitrary numbers and buffers and refuses bad ones with a `Refusal`; the functions that it works by stand beside it.
 #![tactic(auto)]
 
 ghost use Rattle.std.specs.Prelude.{◌≡◌, true, cond, ◌+◌, ◌*◌, ◌≤◌, ltb, nat_abs, length};
@@ -88,15 +88,7 @@ fn bit_of(d: Residue, q: Modulus) -> u32
     requires { 2 * nat_abs d.0 ≤ q }
     ensures { result ≡ cond (ltb q (4 * nat_abs d.0)) 1 0 }
 {
-    let d = d.value();
-    let modulus = q.get() as i64;
-    if modulus < 4 * d {
-        return 1;
-    }
-    if 4 * d < -modulus {
-        return 1;
-    }
-    0
+    u32::from(u64::from(q.get()) < 4 * d.value().unsigned_abs())
 }
 
 // The bit that the residue of <s,c> tells.

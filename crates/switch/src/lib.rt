@@ -12,7 +12,7 @@ use modular::residue::Residue;
 use modular::wide::Wide;
 use scheme::Modulus;
 
-// The exact sum of at most 16 products.
+// The exact sum of at most 16 products. `passes::key::inner_product` has entries of another type on the left, and its sum is small by their sizes and not by their count.
 fn inner(t: &[i64], row: &[i64]) -> i64
     requires { (length t.now ≤ 16) × (length row.now ≡ length t.now) × UpTo 524288 t.now × UpTo 549755813888 row.now }
     ensures value { result ≡ inner t.now row.now }
@@ -56,6 +56,7 @@ pub fn fill_switch(q: Modulus, t: &[i64], key: &[i64], out: &mut [i64])
     ensures { out.new ≡ switch (length out.old) q key.now t.now }
 {
     let width = t.len();
+    // A row by its place: `chunks_exact` of the key asks a width above 0, which is not asked of t.
     for (i, x) in out.iter_mut().enumerate() {
         let at = i * width;
         *x = switch_entry(q, t, &key[at..at + width]).value();

@@ -1,5 +1,5 @@
-// Switching keys: document 01's *Switching key*. The call takes arbitrary numbers and buffers and refuses bad ones by number; the functions that it works by stand
-// beside it.
+// Switching keys: document 01's *Switching key*. The call takes arbitrary numbers and buffers and refuses bad ones with a `Refusal`; the functions that it works by stand
+// beside it. The loans s, masks and errors are the paper's and C's, one by one, and no struct: the promise (`MakeKeyLoans`) names each.
 #![tactic(auto)]
 
 ghost use Rattle.std.specs.Prelude.{◌≡◌, ◌*◌, ◌/◌, ◌%◌, pos, ◌+ℤ◌, ◌-ℤ◌, ◌*ℤ◌, length, get_or, drop};
@@ -33,6 +33,7 @@ fn fill_row_zero(q: Modulus, s: &[i32], masks: &[i64], errors: &[i64], out: &mut
     requires { FillRowZeroReady q s.now masks.now errors.now out.old }
     ensures { out.new ≡ tabulate (length s.now * length s.now) (row_zero_entry (length s.now) q s.now masks.now errors.now) }
 {
+    // errors by index: j is counted all the same, since it is the column, and a zip leaves the proof open as in `gates::xor_into`.
     for (j, x) in out.iter_mut().enumerate() {
         *x = row_zero_entry(q, s, masks, errors[j], j).big_value();
     }

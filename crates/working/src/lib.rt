@@ -70,6 +70,7 @@ pub fn work<C: Gates>(
     ensures wires_after { wires.new ≡ flatten (wires_of p key.now (C.lent circuit.now).gates (cut p.n inputs wires.old)) }
     ensures scratch_after { scratch.new ≡ replicate (p.n * p.n) (pos 0) }
 {
+    // By number: a circuit gives its gates so, and the number is the wire that is written.
     for g in 0..circuit.count() {
         work_gate(p, circuit.gate(g), inputs + g, wires, key, scratch);
     }

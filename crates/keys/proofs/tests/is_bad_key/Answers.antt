@@ -1,6 +1,6 @@
 -- `tests::is_bad_key` is `bad_key`: an empty key has 0 for its entry 0, which is not 1, and of any other the code compares entry 0
 -- by its bits. Leans on what `sum_of_sizes` ensures.
-use Rattle.std.proofs.Common.{◌≡◌, ℕ, suc, ◌-◌, true, List, [], ◌∷◌, length, get_or, eqb, ℤ, pos, negsuc, refl, arith, rules, ne_eqb, SFits, of_z, w32}
+use Rattle.std.proofs.Common.{◌≡◌, ℕ, suc, ◌-◌, true, List, [], ◌∷◌, length, get_or, eqb, ℤ, pos, negsuc, refl, arith, rules, tests, ne_eqb, SFits, of_z, w32}
 use Rattle.whole.specs.Tests.{eq_z}
 use Rattle.scheme.specs.Arithmetic.{is_key}
 use Rattle.scheme.specs.Calls.{bad_key}
@@ -16,8 +16,8 @@ unfolding eq_z
 one_bits (pos n) f = refl
 one_bits (negsuc n) f = ne_eqb (4294967296 - suc n) 1 (λ e. omega (arith, f.sfits))
 
-pub returns-then-s-eq0 : goal.returns-then-s-eq0
-returns-then-s-eq0 c = empty_bad _ _ c.if-s-eq0.true
+pub returns-then-is_empty : goal.returns-then-is_empty
+returns-then-is_empty c = empty_bad _ _ (search (rules, tests))
 
 pub returns : goal.returns
 unfolding bad_key is_key
