@@ -1,6 +1,6 @@
 -- Planning a file whose head is right: it lends its gates, and its inputs at bound E, and what planning then answers and leaves is what 9, 10 and the
 -- bounds of the file are.
-use Rattle.std.specs.Prelude.{◌≡◌, refl, ℕ, zero, suc, ◌+◌, ◌*◌, ◌≤◌, ◌<◌, length, get_or, take, Result, Ok, Err, IfOk}
+use Rattle.std.specs.Prelude.{◌≡◌, refl, ◌≢◌, ℕ, zero, suc, ◌+◌, ◌*◌, ◌≤◌, ◌<◌, length, get_or, take, Result, Ok, Err, IfOk}
 use Rattle.std.proofs.Math.Path.{sym, ap, ap₂}
 use Rattle.std.proofs.Common.{◌∙◌, arith, length-drop, take_at, length-take-le}
 use Rattle.std.proofs.Math.Bool.{true, false, not}
@@ -12,7 +12,7 @@ use Rattle.whole.specs.Lists.{tabulate, length_tabulate, get_or_tabulate, every,
 use Rattle.refusal.specs.declared.Params.{Params}
 use Rattle.refusal.specs.declared.Refusal.{Refusal}
 use Rattle.refusal.specs.Answer.{Answer, refusal_number, refusal_place, answer_to}
-use Rattle.refusal.specs.First.{Row, refused, first_of, answer_of, Clear, answer_rest, first_rest, done_or, done_or_done}
+use Rattle.refusal.specs.First.{Row, refused, first_of, answer_of, Clear, answer_rest, first_rest, done_or, done_or_done, done_or_refused}
 use Rattle.refusal.proofs.Given.{refused_by, done_by, refused_kept, done_written}
 use Rattle.scheme.specs.Arithmetic.{fits}
 use Rattle.scheme.specs.Passed.{lengths_same, below_fits}
@@ -113,13 +113,24 @@ module _ (file : List ℕ) where
     rows_file = rw front
 
     -- and so its answer is that of the gates
-    pub settled_answer : plan_answer loans ≡ gate_answer file
+    pub circuit_answer : plan_answer loans ≡ gate_answer file
     unfolding plan_answer plan_rows
-    settled_answer = answer_rest (plan_front loans) (circuit_rows loans) clear ∙ ap (λ (rows : List Row). answer_of rows) rows_file
+    circuit_answer = answer_rest (plan_front loans) (circuit_rows loans) clear ∙ ap (λ (rows : List Row). answer_of rows) rows_file
 
-    pub settled_bounds_lem : plan_bounds loans ≡ done_or (first_of (file_gate_rows file)) (file_bounds file) Bs
+    pub circuit_bounds : plan_bounds loans ≡ done_or (first_of (file_gate_rows file)) (file_bounds file) Bs
     unfolding plan_bounds plan_rows file_bounds
-    settled_bounds_lem = rw (first_rest (plan_front loans) (circuit_rows loans) clear, rows_file, front)
+    circuit_bounds = rw (first_rest (plan_front loans) (circuit_rows loans) clear, rows_file, front)
+
+    -- the same of the gates in three lists
+    abbrev listed : Circuit → PlanLoans
+    listed circuit = plan_loans (file_params file) (file_inputs file) circuit Bs
+
+    pub settled_answer : plan_answer (listed (as_lists (file_kinds file) (file_lefts file) (file_rights file))) ≡ gate_answer file
+    settled_answer = ap (λ (circuit : Circuit). plan_answer (listed circuit)) file_lists ∙ circuit_answer
+
+    pub settled_bounds_lem : plan_bounds (listed (as_lists (file_kinds file) (file_lefts file) (file_rights file)))
+        ≡ done_or (first_of (file_gate_rows file)) (file_bounds file) Bs
+    settled_bounds_lem = ap (λ (circuit : Circuit). plan_bounds (listed circuit)) file_lists ∙ circuit_bounds
 
 -- the same of what is lent to planning: the fields that were read, and a table `found` whose first entries were filled with E
 module _ (file : List ℕ) (r : HeadRight file) (found : List ℕ) {p : Params} {inputs : ℕ} {Es : List ℕ} (a : p ≡ file_params file) (b : inputs ≡ file_inputs file)
@@ -137,12 +148,21 @@ module _ (file : List ℕ) (r : HeadRight file) (found : List ℕ) {p : Params} 
   lent : plan_loans p inputs (file_circuit file) (Es ++ drop inputs found) ≡ plan_loans (file_params file) (file_inputs file) (file_circuit file) (Es ++ drop inputs found)
   lent = rw (a, b)
 
-  pub lent_planned : {a : Answer} {out : List ℕ} → PlanPromise (plan_loans p inputs (file_circuit file) (Es ++ drop inputs found)) a out
+  pub circuit_planned : {a : Answer} {out : List ℕ} → PlanPromise (plan_loans p inputs (file_circuit file) (Es ++ drop inputs found)) a out
       → (a ≡ gate_answer file) × (out ≡ settled_bounds file found)
   unfolding settled_bounds
-  lent_planned w =
+  circuit_planned w =
       let v = plan_alike lent w in
-      (v.answer ∙ settled_answer file r _ front long, v.bounds_left ∙ settled_bounds_lem file r _ front long ∙ rw (filled, b))
+      (v.answer ∙ circuit_answer file r _ front long, v.bounds_left ∙ circuit_bounds file r _ front long ∙ rw (filled, b))
+
+  -- and of gates that lie in three lists
+  module _ {ks ls rs : List ℕ} (k : ks ≡ file_kinds file) (l : ls ≡ file_lefts file) (m : rs ≡ file_rights file) where
+    lists : as_lists ks ls rs ≡ file_circuit file
+    lists = rw (k, l, m) (file_lists file)
+
+    pub lent_planned : {a : Answer} {out : List ℕ} → PlanPromise (plan_loans p inputs (as_lists ks ls rs) (Es ++ drop inputs found)) a out
+        → (a ≡ gate_answer file) × (out ≡ settled_bounds file found)
+    lent_planned w = circuit_planned (plan_alike (ap (λ (circuit : Circuit). plan_loans p inputs circuit (Es ++ drop inputs found)) lists) w)
 
 -- ---- where 9 and 10 let the file pass, the table holds the bounds of all wires
 
@@ -193,30 +213,55 @@ module _ (file : List ℕ) where
   unfoldable pub bounds_answer : FileBounds
   bounds_answer = file_bounds_of (check_refusal file) (bounds_in no_bounds)
 
-  -- what a call answers that answers the check's number and place, and where it is done the table
-  module _ {r : Result (List ℕ) Refusal} (e : answer_to r ≡ check_refusal file) where
-    pub bounds_refused : {d : Refusal} → r ≡ Err d → bounds_told r ≡ bounds_answer
-    unfolding bounds_answer bounds_in
-    bounds_refused h = ap bounds_told h ∙ ap₂ file_bounds_of (sym (ap answer_to h) ∙ e) (refused_kept (refused_by (check_rows file) e h) _ no_bounds)
+  -- number and place of the check, of any table
+  module _ (table : List ℕ) {a : Answer} (e : a ≡ check_refusal file) where
+    number_is : first_of (check_rows file) ≡ a.number
+    number_is = sym (ap (λ (a : Answer). a.number) e)
 
-    pub bounds_done : {t : List ℕ} → r ≡ Ok t → t ≡ bounds_table file → bounds_told r ≡ bounds_answer
+    pub bounds_refused : a.number ≢ 0 → file_bounds_of a table ≡ file_bounds_of (check_refusal file) (bounds_in table)
+    unfolding bounds_in
+    bounds_refused h = ap₂ file_bounds_of e (sym (done_or_refused _ table (λ z. h (sym number_is ∙ z))))
+
+    pub bounds_done : {Bs : List ℕ} {n : ℕ} → a.number ≡ 0 → Bs ≡ file_bounds file → n ≡ file_inputs file + file_gate_count file
+        → file_bounds_of a (Bs ++ drop n table) ≡ file_bounds_of (check_refusal file) (bounds_in table)
+    unfolding bounds_in
+    bounds_done z f l =
+        ap₂ file_bounds_of e (ap₂ (λ (Bs : List ℕ) (n : ℕ). Bs ++ drop n table) f (l ∙ sym (length_bounds file)) ∙ sym (done_or_done _ table (number_is ∙ z)))
+
+  -- of a result, whose table is 0 on a refusal, and past the bounds where it is done
+  module _ {r : Result (List ℕ) Refusal} (e : answer_to r ≡ check_refusal file) where
+    pub told_refused : {d : Refusal} → r ≡ Err d → bounds_told r ≡ bounds_answer
     unfolding bounds_answer bounds_in
-    bounds_done h f = ap bounds_told h ∙ ap₂ file_bounds_of (sym (ap answer_to h) ∙ e) (done_written _ no_bounds (done_by (check_rows file) e h) f)
+    told_refused h = ap bounds_told h ∙ ap₂ file_bounds_of (sym (ap answer_to h) ∙ e) (refused_kept (refused_by (check_rows file) e h) _ no_bounds)
+
+    pub told_done : {t : List ℕ} → r ≡ Ok t → t ≡ bounds_table file → bounds_told r ≡ bounds_answer
+    unfolding bounds_answer bounds_in
+    told_done h f = ap bounds_told h ∙ ap₂ file_bounds_of (sym (ap answer_to h) ∙ e) (done_written _ no_bounds (done_by (check_rows file) e h) f)
 
   pub bounds_ended : (r : Result (List ℕ) Refusal) → answer_to r ≡ check_refusal file → IfOk r (λ t. t ≡ bounds_table file) → bounds_told r ≡ bounds_answer
-  bounds_ended (Ok t) e f = bounds_done e refl f
-  bounds_ended (Err d) e f = bounds_refused e refl
+  bounds_ended (Ok t) e f = told_done e refl f
+  bounds_ended (Err d) e f = told_refused e refl
+
+  module _ {r : FileBounds} (e : r ≡ bounds_answer) where
+    -- the number and the place are the check's
+    pub bounds_refusal : refused r.number r.place ≡ check_refusal file
+    unfolding bounds_answer
+    bounds_refusal = ap (λ (r : FileBounds). refused r.number r.place) e
+
+    -- and where the number is 0, the bounds stand at the front
+    pub bounds_front : r.number ≡ 0 → (length (file_bounds file) ≤ length r.bounds) × (take (length (file_bounds file)) r.bounds ≡ file_bounds file)
+    unfolding bounds_answer bounds_in
+    bounds_front z = table_front file (ap (λ (r : FileBounds). r.bounds) e ∙ done_or_done _ _ (number_is no_bounds bounds_refusal ∙ z)) (length_bounds file)
 
   module _ (r : Result (List ℕ) Refusal) (e : bounds_told r ≡ bounds_answer) where
-    -- the number and the place are the check's
-    pub bounds_refusal : answer_to r ≡ check_refusal file
-    unfolding bounds_answer
-    bounds_refusal = told_apart r ∙ ap (λ (b : FileBounds). refused b.number b.place) e
+    -- the same of a result
+    pub told_refusal : answer_to r ≡ check_refusal file
+    told_refusal = told_apart r ∙ bounds_refusal e
 
-    -- and where it is done, the bounds stand in the table
+    -- where it is done, the bounds stand in the table
     pub bounds_listed : {t : List ℕ} → r ≡ Ok t → t ≡ bounds_table file
     unfolding bounds_answer bounds_in
-    bounds_listed h = ap (λ (b : FileBounds). b.bounds) (sym (ap bounds_told h) ∙ e) ∙ done_or_done _ _ (done_by (check_rows file) bounds_refusal h)
+    bounds_listed h = ap (λ (b : FileBounds). b.bounds) (sym (ap bounds_told h) ∙ e) ∙ done_or_done _ _ (done_by (check_rows file) told_refusal h)
 
-    pub bounds_front : {t : List ℕ} → r ≡ Ok t → (length (file_bounds file) ≤ length t) × (take (length (file_bounds file)) t ≡ file_bounds file)
-    bounds_front h = table_front file (bounds_listed h) (length_bounds file)
+    pub told_front : {t : List ℕ} → r ≡ Ok t → (length (file_bounds file) ≤ length t) × (take (length (file_bounds file)) t ≡ file_bounds file)
+    told_front h = table_front file (bounds_listed h) (length_bounds file)

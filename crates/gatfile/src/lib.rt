@@ -1,4 +1,4 @@
-// The circuit file in code: its check, and planning on its bytes.
+// The circuit file in code: its check, and planning on its bytes. Nothing here allocates: the table of bounds has room for the most wires.
 #![tactic(auto)]
 
 mod lent;

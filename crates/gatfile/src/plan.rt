@@ -10,7 +10,7 @@ use crate::settle::{all_bounds, bounds};
 use filehead::wire_count;
 use refusal::{Refusal, refuse_if};
 
-// 65,536 times the number plus the place.
+// 65,536 times the number plus the place: one number, since C takes the answers of `check` and `plan` so (include/olwyddreg.h).
 fn as_one<T: Drop>(answer: Result<T, Refusal>) -> u64
     requires { (answer_to answer).place < 65536 }
     ensures { result ≡ as_one (answer_to answer) }
@@ -21,7 +21,7 @@ fn as_one<T: Drop>(answer: Result<T, Refusal>) -> u64
     }
 }
 
-// Writes each bound as four big-endian bytes.
+// Writes each bound as four big-endian bytes. `out` is indexed, since once chunks_mut gives it back a proof knows its length and not its elements.
 fn write_bounds(bounds: &[u32], out: &mut [u8])
     requires { length out.old ≡ 4 * length bounds.now }
     ensures { out.new ≡ flat_map four_bytes bounds.now }

@@ -1,4 +1,4 @@
-// The printed text of a circuit file, into a lent buffer.
+// The printed text of a circuit file, into a lent buffer. Nothing here allocates: a page is an array with room for any text.
 #![tactic(auto)]
 
 mod line;
@@ -33,6 +33,7 @@ fn put_bounds(page: &mut Page, circuit: CircuitFile<'_>, bounds: &[u32])
     ensures { page.new ≡ wire_lines circuit.entry.file.now ++ ok_line circuit.entry.file.now }
 {
     put_wires(page, circuit, bounds);
+    // by index, since `last` answers an Option: a file whose head is right has a wire; by `as`, since with u64::from the answer stayed open
     let output = bounds[bounds.len() - 1];
     let largest = (params(circuit.file).q - 1) / 4;
     put_pair(page, b"OK ", output as u64, largest as u64);
@@ -44,8 +45,9 @@ fn text_of(file: &[u8]) -> Page
 {
     let mut page = Page::new();
     match bounds(file) {
+        // made here and not opened again: `bounds` answers a table only where the head is right
         Ok(table) => put_bounds(&mut page, CircuitFile { file }, &table[..wire_count(file)]),
-        Err(r) => put_pair(&mut page, b"REFUSED ", r.number() as u64, r.place()),
+        Err(r) => put_pair(&mut page, b"REFUSED ", u64::from(r.number()), r.place()),
     }
     page
 }

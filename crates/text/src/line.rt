@@ -34,9 +34,10 @@ pub fn put_wire(page: &mut Page, circuit: CircuitFile<'_>, wire: usize, bound: u
     ensures line { page.new ≡ page.old ++ wire_line wire (kind_word circuit.entry.file.now wire) bound }
     ensures line_length { length page.new ≤ length page.old + 20 }
 {
+    // std has no From of usize to u64
     page.put_field(wire as u64, b' ');
     page.put(kind(circuit, wire));
-    page.put_field(bound as u64, b'\n');
+    page.put_field(u64::from(bound), b'\n');
 }
 
 // A word, with its space, and two numbers: the last line. It has at most 32 bytes.

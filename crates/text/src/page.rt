@@ -1,4 +1,4 @@
-// The page that a text is written on. A contract sees the bytes written so far.
+// The page that a text is written on. A contract sees the bytes written so far. The bytes are an array with a length beside it, since nothing here allocates.
 ghost use Rattle.std.specs.Prelude.{◌≡◌, ◌≤◌, ◌+◌, List, ℕ, [], ◌∷◌, ◌++◌, length, take};
 ghost use Rattle.circuitfile.specs.Text.{decimal};
 
@@ -40,8 +40,8 @@ impl Page {
         &self.bytes[..self.len]
     }
 
-    // Writes bytes. The block of `stream` takes them alike: one type for both is no plainer, since a size that is a const parameter can't be lent
-    // in part, and text would lean on `stream` for these three lines.
+    // Writes bytes. The block of `stream` takes them alike: one type for both is no plainer, since a block is written out when it is full and a page
+    // never is, and text would lean on `stream`, of the programs, for these three lines.
     pub fn put(&mut self, bytes: &[u8])
         requires { length self.old + length bytes.now ≤ 102432 }
         ensures written { self.new ≡ self.old ++ bytes.now }
@@ -52,8 +52,8 @@ impl Page {
         self.len = to;
     }
 
-    // Writes the decimal digits of a number: the last behind those of the others, as the definition has it. Those of `stream::decimal` lie in a
-    // buffer of their own, from which they would be copied.
+    // Writes the decimal digits of a number: the last behind those of the others, as the definition has it. By hand, since text leans on no
+    // program's crate, as that of `stream::decimal` is, and `decimal` of circuitfile is a definition of its own.
     #[tactic(auto, using(circuitfile::specs::Digits::decimal_short, circuitfile::specs::Digits::decimal_long, circuitfile::specs::Digits::length_short, circuitfile::specs::Digits::length_long))]
     pub fn put_number(&mut self, x: u64)
         requires { length self.old + length (decimal x) ≤ 102432 }

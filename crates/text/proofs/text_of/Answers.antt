@@ -7,14 +7,14 @@ use Rattle.circuitfile.specs.File.{file_inputs, file_gate_count, file_bounds}
 use Rattle.circuitfile.specs.Text.{word_refused}
 use Rattle.circuitfile.specs.Order.{check_refusal, check_passes, check_small, check_place}
 use Rattle.circuitfile.specs.Lines.{text_refused, text_done}
-use Rattle.gatfile.specs.Settled.{bounds_told, bounds_answer, bounds_refusal, bounds_listed, table_front}
+use Rattle.gatfile.specs.Settled.{bounds_told, bounds_answer, told_refusal, bounds_listed, table_front}
 use Rattle.text.proofs.text_of.Goals as goal
 
 module _ (file : List ℕ) {r : Result (List ℕ) Refusal} (e : bounds_told r ≡ bounds_answer file) where
   -- the check passes
   module _ {t : List ℕ} (h : r ≡ Ok t) where
     passes : refused 0 0 ≡ check_refusal file
-    passes = sym (ap answer_to h) ∙ bounds_refusal file r e
+    passes = sym (ap answer_to h) ∙ told_refusal file r e
 
     bounds_first : {n : ℕ} → n ≡ file_inputs file + file_gate_count file → (n ≤ length t) × (take n t ≡ file_bounds file)
     bounds_first = table_front file (bounds_listed file r e h)
@@ -22,7 +22,7 @@ module _ (file : List ℕ) {r : Result (List ℕ) Refusal} (e : bounds_told r �
   -- it refuses
   module _ {d : Refusal} (h : r ≡ Err d) where
     refuses : refused (refusal_number d) (refusal_place d) ≡ check_refusal file
-    refuses = sym (ap answer_to h) ∙ bounds_refusal file r e
+    refuses = sym (ap answer_to h) ∙ told_refusal file r e
 
     small : (refusal_number d < 13) × (refusal_place d < 65536)
     small = (rw (ap (λ (a : Answer). a.number) refuses) (check_small file), rw (ap (λ (a : Answer). a.place) refuses) (check_place file))
@@ -50,5 +50,5 @@ returns-in-Ok c = c.put_bounds.ensures ∙ text_done _ (passes c.args.file.now c
 pub returns-in-Err : goal.returns-in-Err
 unfolding word_refused
 returns-in-Err c =
-    let line = rw (c.new-page.ensures, c.number.ensures, c.place.ensures) at c.put_pair.ensures in
+    let line = rw (c.new-page.ensures, c.from.ensures, c.number.ensures, c.place.ensures) at c.put_pair.ensures in
     line ∙ text_refused _ (refuses c.args.file.now c.bounds.ensures c.in-Err.is) (λ z. omega (arith, z, refusal_numbered c.in-Err.r))

@@ -3,14 +3,14 @@ use Rattle.std.proofs.Common.{◌∙◌}
 use Rattle.refusal.proofs.Given.{passed_up, done_by}
 use Rattle.circuitfile.specs.File.{head_rows}
 use Rattle.circuitfile.specs.Order.{head_right, check_settled}
-use Rattle.gatfile.specs.Settled.{bounds_refused, bounds_ended}
+use Rattle.gatfile.specs.Settled.{told_refused, bounds_ended}
 use Rattle.gatfile.proofs.Ends.{check_refused}
 use Rattle.gatfile.proofs.settle.bounds.Goals as goal
 
 pub returns-in_err-open : goal.returns-in_err-open
 returns-in_err-open c =
     let h = passed_up c.from_residual.result c.from_residual.ensures.1 in
-    bounds_refused _ (check_refused _ c.open.ensures.answer c.in_err-open.was h) h
+    told_refused _ (check_refused _ c.open.ensures.answer c.in_err-open.was h) h
 
 pub returns : goal.returns
 returns c =
