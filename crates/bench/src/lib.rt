@@ -1,5 +1,5 @@
 // XOR and NOT, and whole circuits for a C program to time: the calls of `gates`, `planning` and `evaluation`. The loops of an AND gate are the crate `loops`. No part of
-// the engine.
+// the engine. C calls each by its own name, with slices and five numbers (bench/rattle.h), and takes a number for an answer: so each pair stays two functions.
 #![tactic(auto)]
 
 pub mod ciphers;

@@ -1,4 +1,4 @@
-// The budget printer: reads a circuit file on standard input and prints its text.
+// The budget printer: reads a circuit file on standard input and prints its text. Nothing here allocates: the file and the text lie in arrays of the largest size.
 #![tactic(auto)]
 
 ghost use Rattle.std.specs.Prelude.{◌≡◌, ◌≤◌, IfOk, length, take};

@@ -1,4 +1,4 @@
-// Tests at run time of what the functions of `modular` require.
+// Tests at run time of what the functions of `modular`, `passes`, `tensor` and `switch` require.
 ghost use Rattle.std.specs.Prelude.{◌≡◌, ◌≤◌, leb, length};
 ghost use Rattle.whole.specs.Inner.{sizes};
 ghost use Rattle.whole.specs.Lists.{every};
@@ -9,7 +9,7 @@ ghost use Rattle.edges.specs.Guard.{is_up_to, as_modulus, as_count, leading};
 
 use scheme::Modulus;
 
-// q where it is a modulus: even, and from 2 to 2^20.
+// q where it is a modulus: even, and from 2 to 2^20. `is_modulus` of `loops` begins at 16, as document 01 does: the two share no more than a line.
 #[tactic(auto, unfolding(crate::specs::Guard::as_modulus, crate::specs::Guard::is_modulus, stream::specs::Ranges::inside))]
 pub fn modulus(q: i64) -> Option<Modulus>
     ensures { result ≡ as_modulus q }
@@ -57,7 +57,8 @@ pub fn is_small(s: &[i32]) -> bool
     passes::key::sum_of_sizes(s) <= 4096
 }
 
-// Copies numbers of 32 bits to the front of `to`, up to the first that is none, and tells whether all of them are.
+// Copies numbers of 32 bits to the front of `to`, up to the first that is none, and tells whether all of them are. `to` is
+// indexed, since after a zip of iter_mut a proof knows its length and not its elements.
 pub fn narrow(from: &[i64], to: &mut [i32]) -> bool
     requires { length from.now ≤ length to.old }
     ensures value { result ≡ every is_narrow from.now }

@@ -1,4 +1,4 @@
-// The cases on keys, whose entries are of 32 bits.
+// The cases on keys, whose entries are of 32 bits: they lie in an array of the largest size, since nothing here allocates.
 ghost use Rattle.std.specs.Prelude.{◌≡◌, ◌≤◌, IfSome, length, pos};
 ghost use Rattle.whole.specs.Inner.{sizes, inner, column as column_of};
 ghost use Rattle.whole.specs.Lists.{cut};

@@ -20,6 +20,7 @@
 // The first list of a case holds up to 4,096 entries and its second up to 40,960, and a list that is made up to 4,096. Each case has one line: its results, with a
 // space after each, or the word refused, where the function does not take the operands: each requirement is tested at run time before the call. A case number
 // that is none of these is refused too, and has no operands. The program ends at the end of the input, and where an operand is missing or cannot be read.
+// Nothing here allocates: each list lies in an array of the largest size.
 #![tactic(auto)]
 
 mod case;

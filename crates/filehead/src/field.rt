@@ -11,6 +11,7 @@ fn byte(file: &[u8], at: usize) -> u8
 }
 
 // The bytes from `at` on, as many as the field is wide.
+// By a loop: std's from_fn of arrays was tried, and that its items are those of the list in the promise was left open.
 fn bytes<const WIDTH: usize>(file: &[u8], at: usize) -> [u8; WIDTH]
     ensures { result ≡ tabulate WIDTH (λ i. slice_index file.now (at + i)) }
 {
