@@ -75,6 +75,7 @@ pub fn copy<A: Copy, T: Entry<A>>(xs: &[A], out: &mut [T]) -> usize
     if xs.len() > out.len() {
         return 0;
     }
+    // By index, after a try by zip over both: a proof then knows nothing of what `out` holds at the end.
     for (i, x) in xs.iter().enumerate() {
         out[i] = T::entry(*x);
     }

@@ -107,7 +107,7 @@ impl Width {
 }
 
 // Where a call is read from, and the store that it is put into, which has so many numbers of it. Each method says that it keeps the store
-// itself, of which two values speak, before and after, so that no ghost field can.
+// itself, of which two values speak, before and after, so that no ghost field can. The store is lent, for nothing here allocates.
 #[derive(Drop)]
 struct Reader<'a, R> {
     input: &'a mut Input<R>,

@@ -62,7 +62,7 @@ impl Circuit<'_> {
     }
 }
 
-// Room for the gates of a circuit in either form.
+// Room for the gates of a circuit in either form: arrays, for nothing here allocates, and three of them, for planning is lent three lists.
 #[derive(Drop)]
 struct Room {
     kinds: [u32; WIRES],

@@ -65,6 +65,7 @@ fn answer_all<R: Read, W: Write>(
 fn main(rt: HostRuntime) {
     let mut input = Input::new(rt.stdin());
     let mut output = Output::new(rt.stdout());
+    // Arrays, for nothing here allocates.
     let mut store = [0i64; STORE];
     let mut long = [0i64; LONG];
     answer_all(&mut input, &mut output, &mut store, &mut long);

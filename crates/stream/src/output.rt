@@ -119,7 +119,8 @@ impl<W: Write> Output<W> {
 }
 
 // Puts n's decimal digits at the start of `out`, and answers how many there are. The bytes after them
-// stay.
+// stay. Digits are written by hand, since the project leans on std and its own crates alone (crates.txt): by the kit's crate of
+// digits, tried, this proves too, and is shorter.
 pub fn decimal(n: u64, out: &mut [u8; 20]) -> usize
     ensures count_in { CountIn result out.new }
     ensures digits { take result out.new ≡ decimal n }
@@ -138,7 +139,8 @@ fn digit_count(n: u64) -> usize
     n.max(1).ilog10() as usize + 1
 }
 
-// Fills `out` with n's decimal digits, the last one first.
+// Fills `out` with n's decimal digits, the last one first. By index, after a try by a mutable iterator: a proof then knows nothing of what
+// `out` holds at the end.
 fn write_digits(n: u64, out: &mut [u8])
     requires { length out.old ≡ length (decimal n) }
     ensures { out.new ≡ decimal n }
