@@ -22,7 +22,7 @@ LINES = {
     "1 a kind as a number": r"\bkind (?:==|>=) [\w:]+|^const [A-Z]\w?: u8|^\s*match (?:number|case|calls::lent::word)",
     "3 a loop that counts an index by hand": r"^\s*while ",
     "3 an index over a range": r"for \w+ in (?:0|1)\.\.",
-    "4 a conversion or a comparison by hand": r"^\s*(?:pub )?fn (?:size|bits|narrow|word|byte|count|one|two|four|write_four|is_inside|is_within|is_up_to|digit|digit_count|write_digits|put_number)\(",
+    "4 a conversion or a comparison by hand": r"^\s*(?:pub )?fn (?:size|bits|narrow|word|byte|count|one|two|four|write_four|is_inside|is_within|is_up_to|digit|digit_count|write_digits|put_number)\((?!&)",
     "4 a copy or a fill by hand": r"^\s*(?:pub )?fn (?:copy|copy_bounds|zero|fill|put)\(",
     "6 three lists of a circuit's gates side by side": r"^\s*(?:kinds: &(?:mut )?\[u32\],)|fn .*kinds: &(?:mut )?\[u32\]",
     "6 a buffer of fixed size": r"= \[0\w*; \w+\]|\[0\w*; \w+\];",

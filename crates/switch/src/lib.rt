@@ -56,7 +56,7 @@ pub fn fill_switch(q: Modulus, t: &[i64], key: &[i64], out: &mut [i64])
     ensures { out.new ≡ switch (length out.old) q key.now t.now }
 {
     let width = t.len();
-    // A row by its place: `chunks_exact` of the key asks a width above 0, which is not asked of t.
+    // A row by its place: chunks of the key ask a width above 0, which is not asked of t.
     for (i, x) in out.iter_mut().enumerate() {
         let at = i * width;
         *x = switch_entry(q, t, &key[at..at + width]).value();

@@ -17,7 +17,7 @@ fn fill_row(q: Modulus, x: i64, reciprocal: i64, d: &[i64], out: &mut [i64])
 {
     let base = 2199023255552 + (q.get() as i64);
     let slope = (x * reciprocal) >> 20;
-    // out by index: tried by `out.iter_mut().zip(d)`, and what an `iter_mut` in a zip leaves in the buffer is known to no proof, so that `returns` was left open.
+    // out by index: tried by a zip, and what a zip of what is written leaves in the buffer is known to no proof, so that what the function ensures was left open.
     for (v, y) in d.iter().enumerate() {
         out[v] = Residue::up_to_half((slope * *y + base) >> 42, q).value();
     }
@@ -31,7 +31,7 @@ pub fn fill_tensor(q: Modulus, c: &[i64], d: &[i64], out: &mut [i64])
 {
     let reciprocal = 4611686018427387904 / ((q.get() / 2) as i64);
     let n = d.len();
-    // A row by its place: of what `chunks_exact_mut` leaves in the buffer a proof knows the length alone, and it asks a width above 0, where d may be empty.
+    // A row by its place: of what an iterator of chunks leaves in the buffer a proof knows the length alone, and it asks a width above 0, where d may be empty.
     for (u, x) in c.iter().enumerate() {
         let at = u * n;
         fill_row(q, *x, reciprocal, d, &mut out[at..at + n]);
