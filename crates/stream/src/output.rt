@@ -5,6 +5,7 @@ ghost use Rattle.stream.specs.Bounds.{CountIn};
 ghost use Rattle.stream.specs.Held.{room_for, put, put_number, put_numbers, spaced};
 
 use crate::BLOCK;
+use itoa::Buffer;
 use std::io::Write;
 use std::marker::Model;
 
@@ -119,35 +120,14 @@ impl<W: Write> Output<W> {
 }
 
 // Puts n's decimal digits at the start of `out`, and answers how many there are. The bytes after them
-// stay. Digits are written by hand, since the project leans on std and its own crates alone (crates.txt): by the kit's crate of
-// digits, tried, this proves too, and is shorter.
+// stay.
 pub fn decimal(n: u64, out: &mut [u8; 20]) -> usize
     ensures count_in { CountIn result out.new }
     ensures digits { take result out.new ≡ decimal n }
     ensures rest { drop result out.new ≡ drop result out.old }
 {
-    let k = digit_count(n);
-    write_digits(n, &mut out[..k]);
-    k
-}
-
-// How many decimal digits n has: 0 has one, as 1 has.
-fn digit_count(n: u64) -> usize
-    ensures value { result ≡ length (decimal n) }
-    ensures most { result ≤ 20 }
-{
-    n.max(1).ilog10() as usize + 1
-}
-
-// Fills `out` with n's decimal digits, the last one first. By index, after a try by a mutable iterator: a proof then knows nothing of what
-// `out` holds at the end.
-fn write_digits(n: u64, out: &mut [u8])
-    requires { length out.old ≡ length (decimal n) }
-    ensures { out.new ≡ decimal n }
-{
-    let mut rest = n;
-    for i in (0..out.len()).rev() {
-        out[i] = b'0' + (rest % 10) as u8;
-        rest /= 10;
-    }
+    let mut buffer = Buffer::new();
+    let digits = buffer.format(n).as_bytes();
+    out[..digits.len()].copy_from_slice(digits);
+    digits.len()
 }

@@ -33,8 +33,5 @@ total c =
     let e = zip_end c.args.t.now c.args.row.now c.loop-x.yielded c.into_iter-x-iterator.result c.loop-x.x-iterator c.next.new.self c.next.result (cc) (cc) c.loop-x.yielded_by c.in-None.is c.next.ensures.steps in
     sum_end c.loop-x.invariant (omega arith) (omega arith)
 
-pub returns-clause-value : goal.returns-clause-value
-returns-clause-value c = total c
-
 pub returns-clause-small : goal.returns-clause-small
 returns-clause-small c = rw (total c) (omega (arith, inner_most c.requires.2 c.requires.3))

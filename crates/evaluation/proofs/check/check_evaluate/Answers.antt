@@ -64,9 +64,6 @@ returns-in_err-refuse_if-2 g c =
     (goes_on c.refuse_if.ensures c.in_ok-refuse_if.was (sym (params_tested _ c.in_range.ensures refl))
     (refuses refl c.refuse_if-2.ensures c.in_err-refuse_if-2.was (rw c.count-gates.ensures at c.are_bad_counts.ensures) c.from_residual-in_err-refuse_if-2.ensures.1))
 
-pub overflow_mul-square : goal.overflow_mul-square
-overflow_mul-square g c = let r = (answered_range _ c.in_range.ensures (was_false c.refuse_if.ensures c.in_ok-refuse_if.was)) in omega (arith, mul-le-mul r.n_high r.n_high)
-
 pub overflow_add-total : goal.overflow_add-total
 overflow_add-total g c =
     let counts = sym c.are_bad_counts.ensures ∙ was_false c.refuse_if-2.ensures c.in_ok-refuse_if-2.was in

@@ -2,7 +2,7 @@
 use Rattle.std.proofs.Common.{◌≡◌, ◌+◌, ◌<◌, List, ℕ, length, min, slice_index, sym, ap, ◌∙◌, arith}
 use Rattle.std.proofs.lemmas.Grind.{common_steps}
 use Rattle.std.proofs.lemmas.List.{length-replicate}
-use Rattle.whole.specs.Lists.{fill_start, fill_step, fill_end, length_tabulate, get_or_tabulate}
+use Rattle.whole.specs.Lists.{fill_start, fill_step, length_tabulate, get_or_tabulate}
 use Rattle.filehead.proofs.field.bytes.Goals as goal
 
 -- where a place passes the largest number, that number is past the end too
@@ -18,6 +18,3 @@ loop-i-preserved g c =
     let more : c.loop-i.i < g.row.WIDTH = omega arith in
     let entry = get_or_tabulate g.row.WIDTH (λ i. slice_index c.args.file.now (c.args.at + i)) c.loop-i.i 0 more in
     fill_step c.loop-i.invariant c.byte.result 0 (simp length-replicate more) (rw entry (read ∙ byte_at c.args.file.now _ (omega arith)))
-
-pub returns : goal.returns
-returns g c = fill_end c.loop-i.invariant (simp length-replicate (omega arith))

@@ -10,7 +10,7 @@ use Rattle.whole.specs.Size.{size_add, size_mul}
 use Rattle.whole.specs.Rem.{quot_rem, rem_size}
 use Rattle.whole.specs.Centred.{centred}
 use Rattle.whole.proofs.Centred.{centred_turn}
-use Rattle.whole.specs.Machine.{word, fits64, quot_fits, rem_fits}
+use Rattle.whole.specs.Machine.{word, fits64, rem_fits}
 use Rattle.scheme.specs.Loans.{Modulus, square}
 use Rattle.modular.proofs.big_residue.BigResidue.of_wide.Goals as goal
 
@@ -52,35 +52,6 @@ module _ (q : ℕ) (hi lo : ℤ) (modulus : Modulus q) (hi_fits : SFits w64 hi) 
 
     machine_fits : SFits w64 (word w64 (rest *ℤ pos b) +ℤ lo)
     machine_fits = rw (to_z-of_z scaled_fits) sum_fits
-
-pub overflow_mul-wide : goal.overflow_mul-wide
-overflow_mul-wide c =
-    let m = c.get-wide.ensures.modulus in
-    let back : to_z w64 c.args.q ≡ pos c.args.q = to_z_pos w64 (omega (arith, m.high)) in
-    rw (c.get-wide.ensures.value, back) (fits64 _ (omega (arith, (square m).high)))
-
-pub nonzero_rem-x : goal.nonzero_rem-x
-nonzero_rem-x c =
-    let q = c.args.q in
-    let hi = c.args.x.hi in
-    let lo = c.args.x.lo in
-    let m = c.get-wide.ensures.modulus in
-    let s = c.requires in
-    let held : SFits w64 hi = search rules in (
-      rw (c.get-wide.ensures.value, q_back q hi lo m held s) (square m).positive,
-      simp (c.get-wide.ensures.value, q_back q hi lo m held s, Q_back q hi lo m held s, to_z-of_z, held) (quot_fits hi (q * q) held),
-    )
-
-pub overflow_mul-x : goal.overflow_mul-x
-overflow_mul-x c =
-    let q = c.args.q in
-    let hi = c.args.x.hi in
-    let lo = c.args.x.lo in
-    let m = c.get-wide.ensures.modulus in
-    let s = c.requires in
-    let held : SFits w64 hi = search rules in
-    simp (c.get-wide.ensures.value, q_back q hi lo m held s, Q_back q hi lo m held s, to_z-of_z, held, rest_fits q hi lo m held s)
-    (search (scaled_fits q hi lo m held s, lit≤))
 
 pub overflow_add-x : goal.overflow_add-x
 overflow_add-x c =
