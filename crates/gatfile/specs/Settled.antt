@@ -24,7 +24,7 @@ use Rattle.circuitfile.specs.File.{field, file_params, file_inputs, file_gate_co
 use Rattle.circuitfile.specs.Order.{HeadRight, head_right, gate_answer, check_refusal}
 use Rattle.circuitfile.specs.Wires.{length_inputs, length_bounds}
 
--- one part of each gate, and so the kinds, the lefts and the rights
+-- one part of each gate, and so the kinds, the lefts and the rights, of which the circuit can be made too; the code lends the gates as they lie (`CircuitFile`)
 unfoldable pub file_column : List ℕ → (Gate → ℕ) → List ℕ
 file_column file part = tabulate (file_gate_count file) (λ g. part (file_gate file g))
 
@@ -51,6 +51,7 @@ unfoldable pub settled_bounds : List ℕ → List ℕ → List ℕ
 settled_bounds file table = done_or (first_of (file_gate_rows file)) (file_bounds file) (file_input_bounds file ++ drop (file_inputs file) table)
 
 module _ (file : List ℕ) where
+  -- the records of the three lists are the file's gates
   pub records_file : records (file_kinds file) (file_lefts file) (file_rights file) ≡ file_gates file
   unfolding file_column file_gates
   records_file = records_tabulate (file_gate_count file) (file_gate file)
@@ -76,6 +77,10 @@ module _ (file : List ℕ) where
 
   pub few_gates : first_of (head_rows file) ≡ 0 → length (file_gates file) ≤ 4096
   few_gates right = omega (arith, length_gates, (head_right file right).gates_high)
+
+  -- the five bytes of gate g lie in the file
+  pub gate_within : first_of (head_rows file) ≡ 0 → (g : ℕ) → g < length (file_gates file) → 23 + 5 * g + 4 < length file
+  gate_within right g h = omega (arith, h, length_gates, (head_right file right).long)
 
   -- gate g, and its kind
   pub gate_lent : (g : ℕ) → g < length (file_gates file) → get_or (file_gates file) g (gate 0 0 0) ≡ file_gate file g
@@ -198,6 +203,16 @@ told_apart (Err d) = refl
 -- the bounds of all wires at the front of a table
 abbrev pub bounds_table : List ℕ → List ℕ
 bounds_table file = file_bounds file ++ drop (length (file_bounds file)) no_bounds
+
+-- it has room for a bound of each wire
+pub wires_within : (file : List ℕ) {n : ℕ} → first_of (head_rows file) ≡ 0 → n ≡ file_inputs file + file_gate_count file → n ≤ length no_bounds
+wires_within file right e = omega (arith, e, (head_right file right).wires_high)
+
+-- and where 9 and 10 let the file pass, planning leaves them there
+pub settled_table : (file found : List ℕ) {a : Answer} {Bs : List ℕ} {n : ℕ} → a ≡ gate_answer file → a.number ≡ 0 → Bs ≡ settled_bounds file found
+    → n ≡ file_inputs file + file_gate_count file → Bs ++ drop n no_bounds ≡ bounds_table file
+settled_table file found e z w l =
+    ap₂ (λ (Bs : List ℕ) (n : ℕ). Bs ++ drop n no_bounds) (settled_all file found e z w) (l ∙ sym (length_bounds file))
 
 -- as many entries as there are wires are those bounds
 pub table_front : (file : List ℕ) {t : List ℕ} {n : ℕ} → t ≡ bounds_table file → n ≡ file_inputs file + file_gate_count file → (n ≤ length t) × (take n t ≡ file_bounds file)

@@ -7,7 +7,6 @@ ghost use Rattle.circuitfile.specs.File.{file_gates, head_rows};
 
 use checks::lent::Gates;
 use circuit::Gate;
-use filehead::field::{one, two};
 use filehead::{HEAD, check_head, gate_count};
 use refusal::Refusal;
 
@@ -43,13 +42,16 @@ impl<'a> Gates for CircuitFile<'a> {
         false
     }
 
-    #[tactic(auto, using(crate::specs::Settled::few_gates, crate::specs::Settled::gate_lent), unfolding(circuitfile::specs::File::file_gate))]
+    #[tactic(auto, using(crate::specs::Settled::few_gates, crate::specs::Settled::gate_within, crate::specs::Settled::gate_lent), unfolding(circuitfile::specs::File::file_gate, circuitfile::specs::File::field, circuitfile::specs::File::big_endian, whole::specs::Lists::tabulate))]
     fn gate(&self, g: usize) -> Gate {
+        // By index, where the fields of any file are tested byte for byte: the five bytes of a gate are there, and planning asks for each gate twice.
         let at = HEAD + 5 * g;
+        let left = [self.file[at + 1], self.file[at + 2]];
+        let right = [self.file[at + 3], self.file[at + 4]];
         Gate {
-            kind: one(self.file, at),
-            left: two(self.file, at + 1),
-            right: two(self.file, at + 3),
+            kind: u32::from(self.file[at]),
+            left: u32::from(u16::from_be_bytes(left)),
+            right: u32::from(u16::from_be_bytes(right)),
         }
     }
 }

@@ -3,10 +3,10 @@ ghost use Rattle.std.specs.Prelude.{◌≡◌, ◌*◌, ◌<◌, length};
 ghost use mathlib.Core.List.{flat_map};
 ghost use Rattle.refusal.specs.Answer.{answer_to};
 ghost use Rattle.circuitfile.specs.File.{as_one, four_bytes, plan_file_buffer, CheckPromise, PlanFilePromise};
-ghost use Rattle.circuitfile.specs.Order.{plan_refusal};
+ghost use Rattle.circuitfile.specs.Order.{check_refusal, plan_refusal};
 
 use crate::lent::CircuitFile;
-use crate::settle::{all_bounds, bounds};
+use crate::settle::{WIRES, settle};
 use filehead::wire_count;
 use refusal::{Refusal, refuse_if};
 
@@ -39,16 +39,27 @@ fn planned(file: &[u8], bounds: &mut [u8]) -> Result<(), Refusal>
     let circuit = CircuitFile::open(file)?;
     let wires = wire_count(file);
     refuse_if(bounds.len() != 4 * wires, Refusal::Length)?;
-    let table = all_bounds(circuit)?;
+    let mut table = [0; WIRES];
+    settle(circuit, &mut table[..wires])?;
     write_bounds(&table[..wires], bounds);
     Ok(())
+}
+
+// The check, which answers why it refuses. The table is made here, once the head is right, and goes no further: one that is answered is copied, and
+// is made before the head is looked at.
+fn checked(file: &[u8]) -> Result<(), Refusal>
+    ensures { answer_to result ≡ check_refusal file.now }
+{
+    let circuit = CircuitFile::open(file)?;
+    let mut table = [0; WIRES];
+    settle(circuit, &mut table[..wire_count(file)])
 }
 
 // The check of a circuit file through its whole order, 10 included: 65,536 times the number plus the place.
 pub fn check(file: &[u8]) -> u64
     ensures { CheckPromise file.now result }
 {
-    as_one(bounds(file))
+    as_one(checked(file))
 }
 
 // Planning on a circuit file: every wire's bound, four big-endian bytes each, and the same answer. 3 for the buffer's length comes after the

@@ -14,7 +14,7 @@ pub const WIRES: usize = 5120;
 
 // Plans the circuit of the file, whose inputs all start at bound E: fills the table with the bounds of all wires. Refusals 9 and 10, with the gate
 // as place.
-fn settle(circuit: CircuitFile<'_>, table: &mut [u32]) -> Result<(), Refusal>
+pub fn settle(circuit: CircuitFile<'_>, table: &mut [u32]) -> Result<(), Refusal>
     requires { length table.old ≡ file_inputs circuit.file.now + file_gate_count circuit.file.now }
     ensures answer { answer_to result ≡ gate_answer circuit.entry.file.now }
     ensures table_after { table.new ≡ settled_bounds circuit.entry.file.now table.old }

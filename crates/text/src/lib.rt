@@ -17,7 +17,7 @@ use gatfile::{CircuitFile, bounds};
 use refusal::{Refusal, refuse_if};
 
 // The lines of all wires.
-fn put_wires(page: &mut Page, circuit: CircuitFile<'_>, bounds: &[u32])
+fn put_wires(page: &mut Page<'_>, circuit: CircuitFile<'_>, bounds: &[u32])
     requires { (page.old ≡ []) × (bounds.now ≡ file_bounds circuit.file.now) }
     ensures lines { page.new ≡ wire_lines circuit.entry.file.now }
     ensures lines_length { length page.new ≤ 102400 }
@@ -28,7 +28,7 @@ fn put_wires(page: &mut Page, circuit: CircuitFile<'_>, bounds: &[u32])
 }
 
 // The text of a file that is not refused: the lines of all wires, then the output's bound and the largest bound that fits.
-fn put_bounds(page: &mut Page, circuit: CircuitFile<'_>, bounds: &[u32])
+fn put_bounds(page: &mut Page<'_>, circuit: CircuitFile<'_>, bounds: &[u32])
     requires { (page.old ≡ []) × (bounds.now ≡ file_bounds circuit.file.now) }
     ensures { page.new ≡ wire_lines circuit.entry.file.now ++ ok_line circuit.entry.file.now }
 {
@@ -39,17 +39,16 @@ fn put_bounds(page: &mut Page, circuit: CircuitFile<'_>, bounds: &[u32])
     put_pair(page, b"OK ", output as u64, largest as u64);
 }
 
-// The text of any file, on a page.
-fn text_of(file: &[u8]) -> Page
-    ensures { result ≡ file_text file.now }
+// The text of any file, on an empty page.
+fn put_text(page: &mut Page<'_>, file: &[u8])
+    requires { page.old ≡ [] }
+    ensures { page.new ≡ file_text file.now }
 {
-    let mut page = Page::new();
     match bounds(file) {
         // made here and not opened again: `bounds` answers a table only where the head is right
-        Ok(table) => put_bounds(&mut page, CircuitFile { file }, &table[..wire_count(file)]),
-        Err(r) => put_pair(&mut page, b"REFUSED ", u64::from(r.number()), r.place()),
+        Ok(table) => put_bounds(page, CircuitFile { file }, &table[..wire_count(file)]),
+        Err(r) => put_pair(page, b"REFUSED ", u64::from(r.number()), r.place()),
     }
-    page
 }
 
 // Writes the text at the front of the buffer and answers its length. A buffer that is shorter than the text is refused with 3, and nothing is
@@ -58,7 +57,9 @@ pub fn text(file: &[u8], out: &mut [u8]) -> Result<usize, Refusal>
     ensures promise { TextPromise file.now out.old (printed_of result) out.new }
     ensures length_high { length (file_text file.now) ≤ 102432 }
 {
-    let page = text_of(file);
+    let mut room = [0; ROOM];
+    let mut page = Page::new(&mut room);
+    put_text(&mut page, file);
     let text = page.text();
     refuse_if(out.len() < text.len(), Refusal::Length)?;
     out[..text.len()].copy_from_slice(text);

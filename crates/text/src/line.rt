@@ -29,7 +29,7 @@ fn kind(circuit: CircuitFile<'_>, wire: usize) -> &'static [u8]
 
 // The line of a wire: wire, kind, bound. It has at most 20 bytes.
 #[tactic(auto, using(crate::proofs::Digits::few_digits, circuitfile::specs::Lines::word_few), unfolding(circuitfile::specs::Text::wire_line))]
-pub fn put_wire(page: &mut Page, circuit: CircuitFile<'_>, wire: usize, bound: u32)
+pub fn put_wire(page: &mut Page<'_>, circuit: CircuitFile<'_>, wire: usize, bound: u32)
     requires { (wire < file_inputs circuit.file.now + file_gate_count circuit.file.now) × (length page.old + 20 ≤ 102432) }
     ensures line { page.new ≡ page.old ++ wire_line wire (kind_word circuit.entry.file.now wire) bound }
     ensures line_length { length page.new ≤ length page.old + 20 }
@@ -42,7 +42,7 @@ pub fn put_wire(page: &mut Page, circuit: CircuitFile<'_>, wire: usize, bound: u
 
 // A word, with its space, and two numbers: the last line. It has at most 32 bytes.
 #[tactic(auto, using(circuitfile::specs::Lines::word_few), unfolding(circuitfile::specs::Lines::pair_line))]
-pub fn put_pair(page: &mut Page, word: &[u8], x: u64, y: u64)
+pub fn put_pair(page: &mut Page<'_>, word: &[u8], x: u64, y: u64)
     requires { (length word.now ≤ 8) × (x < 4294967296) × (y < 4294967296) × (length page.old + 32 ≤ 102432) }
     ensures { page.new ≡ page.old ++ pair_line word.now x y }
 {

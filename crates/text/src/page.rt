@@ -1,4 +1,5 @@
-// The page that a text is written on. A contract sees the bytes written so far. The bytes are an array with a length beside it, since nothing here allocates.
+// The page that a text is written on. A contract sees the bytes written so far. The bytes are a lent array with a length beside it, since nothing here
+// allocates; it is lent since a page that holds it is copied where it is made.
 ghost use Rattle.std.specs.Prelude.{◌≡◌, ◌≤◌, ◌+◌, List, ℕ, [], ◌∷◌, ◌++◌, length, take};
 ghost use Rattle.circuitfile.specs.Text.{decimal};
 
@@ -8,28 +9,25 @@ use std::marker::Model;
 pub const ROOM: usize = 102432;
 
 #[derive(Drop)]
-pub struct Page {
-    bytes: [u8; ROOM],
+pub struct Page<'a> {
+    bytes: &'a mut [u8; ROOM],
     len: usize,
 }
 
-impl Model for Page {
+impl<'a> Model for Page<'a> {
     ghost Value = { List ℕ };
 
-    ghost view = { λ p. take p.len p.bytes };
+    ghost view = { λ p. take p.len p.bytes.now };
 
     ghost invariant = { λ p. p.len ≤ 102432 };
 }
 
-impl Page {
+impl<'a> Page<'a> {
     // An empty page.
-    pub fn new() -> Page
+    pub fn new(bytes: &'a mut [u8; ROOM]) -> Page<'a>
         ensures { result ≡ [] }
     {
-        Page {
-            bytes: [0; ROOM],
-            len: 0,
-        }
+        Page { bytes, len: 0 }
     }
 
     // What is written.
@@ -48,7 +46,8 @@ impl Page {
         ensures length { length self.new ≡ length self.old + length bytes.now }
     {
         let to = self.len + bytes.len();
-        self.bytes[self.len..to].copy_from_slice(bytes);
+        let room = &mut *self.bytes;
+        room[self.len..to].copy_from_slice(bytes);
         self.len = to;
     }
 
