@@ -1,3 +1,3 @@
-pub mod Rows
+pub mod Beyond
 pub mod Sums
 pub mod Tops

@@ -23,14 +23,15 @@ pub fn inner_product(s: &[i32], c: &[i64]) -> i64
     sum
 }
 
-// <s,column j> of a table that lies row by row, one row of `width` entries for each entry of s.
+// <s,column j> of a table that lies row by row, one row of `width` entries for each entry of s. Read by place, so that the pass has one exit and is
+// unrolled: rows in step with s give it two, and a division at its start.
 pub fn inner_column(s: &[i32], table: &[i64], width: usize, j: usize) -> i64
     requires { (length table.now ≡ length s.now * width) × (j < width) × (sizes s.now ≤ 4096) × UpTo 549755813888 table.now }
     ensures { result ≡ inner s.now (column j (cut width (length s.now) table.now)) }
 {
     let mut sum = 0;
-    for (x, row) in s.iter().zip(table.chunks_exact(width)) {
-        sum += i64::from(*x) * row[j];
+    for (i, x) in s.iter().enumerate() {
+        sum += i64::from(*x) * table[i * width + j];
     }
     sum
 }

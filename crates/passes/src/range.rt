@@ -37,9 +37,15 @@ pub fn all_big_residues(xs: &[i64], q: Modulus) -> bool
     all_below(xs, wide * wide / 2)
 }
 
-// Whether every error is at most limit in size.
+// Whether every error is at most limit in size: a size beyond it and the room that it leaves below 2^63 sum to 2^63 or more. No exit inside the pass, as in
+// `all_below`.
 pub fn all_within(errors: &[i64], limit: u32) -> bool
     ensures { result ≡ every (λ e. nat_le (unsigned_abs e) limit) errors.now }
 {
-    errors.iter().all(|e| e.unsigned_abs() <= u64::from(limit))
+    let room = TOP - 1 - u64::from(limit);
+    let mut beyond = 0;
+    for e in errors {
+        beyond += (e.unsigned_abs() + room) >> 63;
+    }
+    beyond == 0
 }

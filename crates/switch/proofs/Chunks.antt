@@ -11,6 +11,10 @@ pub record Held (t row : List ℤ) (j b : ℕ) (hi lo : ℤ) : Type 0 where
   pub high : nat_abs hi ≤ b * 274877906944
   pub low : nat_abs lo ≤ b * 65536
 
+-- the same of two numbers that equal these, however they are told
+pub held_same : {t row : List ℤ} {j b : ℕ} {hi lo up down : ℤ} → Held t row j b hi lo → up ≡ hi → down ≡ lo → Held t row j b up down
+held_same held h l = rw (h, l) held
+
 -- the products from j up to e, at most 16, added
 pub chunk_more : {t row : List ℤ} (j e : ℕ) {hi lo x up down : ℤ} → length t ≡ length row → j ≤ e → Held t row j j hi lo
     → x ≡ inner (take (e - j) (drop j t)) (take (e - j) (drop j row))

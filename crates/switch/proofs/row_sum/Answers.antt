@@ -1,9 +1,10 @@
 -- `row_sum` returns the inner product of two slices as hi·2^20 + lo. A chunk of 16 products is at most 2^62, so that each of the 2^16 chunks, and the rest, may be
 -- added and keeps the bounds (`chunk_more` of Chunks). Assumes nothing.
 use Rattle.std.proofs.Common.{◌≡◌, ◌+◌, ◌*◌, ◌/◌, ℕ, length, length-take, length-drop, refl, ap₂, ◌∙◌, arith, rules, w64, SFits, to_z-of_z}
+use Rattle.std.proofs.lemmas.Int.{ints}
 use Rattle.whole.specs.Inner.{inner, inner_every}
 use Rattle.whole.specs.Lists.{each_part, each_drop}
-use Rattle.switch.proofs.Chunks.{Held, chunk_more, chunk_at, rest_at}
+use Rattle.switch.proofs.Chunks.{Held, held_same, chunk_more, chunk_at, rest_at}
 use Rattle.switch.proofs.row_sum.Goals as goal
 
 pub loop-k-init : goal.loop-k-init
@@ -26,10 +27,11 @@ loop-k-preserved c =
     let read : SFits w64 c.inner.result = search rules in
     let next : (c.loop-k.k + 1) * 16 ≡ c.loop-k.k * 16 + 16 = omega arith in
     let p = c.plus-sum.ensures in
-    rw next
-    (chunk_more (c.loop-k.k * 16) (c.loop-k.k * 16 + 16) (omega arith) (omega arith) c.loop-k.invariant
+    let added : Held c.args.t.now c.args.row.now (c.loop-k.k * 16 + 16) (c.loop-k.k * 16 + 16) c.plus-sum.result.hi c.plus-sum.result.lo =
+    chunk_more (c.loop-k.k * 16) (c.loop-k.k * 16 + 16) (omega arith) (omega arith) c.loop-k.invariant
     (to_z-of_z read ∙ c.inner.ensures.value ∙ ap₂ inner left right)
-    p.sum p.high p.low)
+    p.sum p.high p.low in
+    rw next (held_same added (omega (arith, ints)) (omega (arith, ints)))
 
 pub inner-requires-2 : goal.inner-requires-2
 inner-requires-2 c =

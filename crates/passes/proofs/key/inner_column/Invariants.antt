@@ -1,9 +1,9 @@
--- `inner_column`: the sum so far is the inner product of as many entries of s and of the column as rows were passed.
+-- `inner_column`: the sum so far is the inner product of the first i entries of s and of the column.
 use Rattle.std.proofs.Common.{length}
 use Rattle.whole.specs.Inner.{column}
 use Rattle.whole.specs.Lists.{cut}
 use Rattle.passes.proofs.Sums.{Summed}
 use Rattle.passes.proofs.key.inner_column.Given as goal
 
-abbrev pub invariant-loop-x : goal.invariant-loop-x
-invariant-loop-x l = Summed l.s (column l.j (cut l.width (length l.s) l.table)) l.sum (length l.yielded)
+abbrev pub invariant-loop-i : goal.invariant-loop-i
+invariant-loop-i l = Summed l.s (column l.j (cut l.width (length l.s) l.table)) l.sum l.i
