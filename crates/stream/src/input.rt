@@ -1,16 +1,23 @@
 // Whole numbers from a reader, in decimal, with white space between them. The input passes through
 // a block and is never held whole, so it may be of any length.
-ghost use Rattle.std.specs.Prelude.{◌≤◌, ◌<◌, ◌≡◌, List, ℕ, [], length, drop, slice_get, slice_range, IfOk, IfSome};
+ghost use Rattle.std.specs.Prelude.{◌≤◌, ◌<◌, ◌≡◌, List, ℕ, [], neg_ℤ, pos, length, drop, slice_get, slice_range, IfOk, IfSome};
 ghost use Rattle.stream.specs.Bounds.{CountIn};
+ghost use Rattle.stream.specs.Sizes.{more as Sizes·more};
 ghost use Rattle.stream.specs.White.{is_white as White·is_white, WhiteNext};
 
-use crate::BLOCK;
 use std::io::{Read, Result};
 use std::marker::Model;
 
 // The most bytes of white space that are passed over before a number. A number has fewer digits
 // than this. A proved loop has to end, and nothing says that the input does.
 const MOST: usize = 65536;
+
+// A size that another digit may follow: ten times this, and nine, is just above the largest size
+// of an i64, and still a u64.
+const ROOM: u64 = 922337203685477580;
+
+// The bytes of the block. It is read anew when all of them are taken, so that a short one takes no more of an input that others share, and little of the stack.
+const BLOCK: usize = 4096;
 
 // A reader, the block that was read last, and what is left of it: its bytes from `at` up to, not
 // including, `end`. A contract sees these bytes.
@@ -27,7 +34,7 @@ impl<R> Model for Input<R> {
 
     ghost view = { λ i. slice_range i.block i.at i.end };
 
-    ghost invariant = { λ i. (i.at ≤ i.end) × (i.end ≤ 65536) };
+    ghost invariant = { λ i. (i.at ≤ i.end) × (i.end ≤ 4096) };
 }
 
 impl<R: Read> Input<R> {
@@ -52,9 +59,9 @@ impl<R: Read> Input<R> {
     {
         if self.skip()? == b'-' {
             self.take();
-            return 0i64.checked_sub_unsigned(self.digits()?);
+            return negative(self.digits()?);
         }
-        i64::try_from(self.digits()?).ok()
+        positive(self.digits()?)
     }
 
     // A count, and then that many numbers, which are put at the front of `out`: how many. None where
@@ -131,9 +138,30 @@ impl<R: Read> Input<R> {
     }
 }
 
-// A size with one more digit after it, where that is a u64.
-fn more(size: u64, digit: u8) -> Option<u64> {
-    size.checked_mul(10)?.checked_add(u64::from(digit))
+// A size with one more digit after it, where it has room for one: a number that is too large is
+// refused at the digit that makes it so, and nothing more is read.
+#[tactic(auto, unfolding(crate::specs::Sizes::more))]
+fn more(size: u64, digit: u8) -> Option<u64>
+    ensures { result ≡ Sizes·more size digit }
+{
+    if size > ROOM {
+        return None;
+    }
+    Some(size * 10 + u64::from(digit))
+}
+
+// The number that digits without a sign stand for.
+fn positive(size: u64) -> Option<i64>
+    ensures { IfSome result (λ x. x ≡ pos size) }
+{
+    i64::try_from(size).ok()
+}
+
+// The number that digits after a `-` stand for.
+fn negative(size: u64) -> Option<i64>
+    ensures { IfSome result (λ x. x ≡ neg_ℤ (pos size)) }
+{
+    0i64.checked_sub_unsigned(size)
 }
 
 // Space, tab, line feed, carriage return.

@@ -7,6 +7,3 @@ mod output;
 
 pub use input::Input;
 pub use output::{Output, decimal};
-
-// The bytes of a block: an array with its count beside it, for nothing here allocates.
-const BLOCK: usize = 65536;
