@@ -28,7 +28,7 @@ pub fn plan<W: Write>(mut call: Lent<'_>, output: &mut Output<W>)
     let b = call.fill(&mut bounds);
     let bounds = &mut bounds[..b];
     output.unsigned(gatfile::plan::plan(&file[..n], bounds));
-    print::entries(output, bounds);
+    print::words(output, bounds);
 }
 
 // Call 16: a file, and the buffer of its text as found.
@@ -41,5 +41,5 @@ pub fn print<W: Write>(mut call: Lent<'_>, output: &mut Output<W>)
     let len = call.fill(&mut out);
     let out = &mut out[..len];
     print::value(output, text::text(&file[..n], out).map(|n| n as u64));
-    print::entries(output, out);
+    print::words(output, out);
 }

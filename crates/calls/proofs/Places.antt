@@ -1,18 +1,18 @@
 -- What a call in the store lends, by places in the whole call, as a reader of the format counts them. The code takes each thing from the
--- front (specs/Lent). Assumes nothing.
-use Rattle.std.specs.Prelude.{◌≡◌, refl, cond, Bool, true, false, List, [], map, ℕ, ◌+◌, ◌*◌, ◌/◌, ◌≤◌, ◌<◌, min, leb, ℤ, pos, negsuc, nat_abs, length, get_or, take, drop, set, replicate}
+-- front (specs/Lent), which is the same: laws below say so, of each definition. Assumes nothing.
+use Rattle.std.specs.Prelude.{◌≡◌, refl, cond, Bool, true, false, List, [], map, ℕ, ◌+◌, ◌-◌, ◌*◌, ◌/◌, ◌≤◌, ◌<◌, min, leb, ℤ, pos, negsuc, nat_abs, length, get_or, take, drop, set, replicate}
 use Rattle.std.proofs.Common.{sym, ap, ◌∙◌, add-zero, div-mul-le_self, not-suc-le-zero, arith, lit<, leb-true, leb-false}
-use Rattle.std.proofs.lemmas.List.{length-map, length-replicate}
+use Rattle.std.proofs.lemmas.List.{length-map, length-replicate, length-drop, get_or-drop, drop-drop, drop_min, map-id}
 use borrow.Author.Tests.{le-leb, lt-leb}
 use Rattle.refusal.specs.declared.Params.{Params}
 use Rattle.refusal.specs.Parameters.{params}
 use Rattle.circuit.specs.declared.Gate.{Gate}
 use Rattle.circuit.specs.Circuits.{gate}
 use Rattle.stream.specs.Ranges.{inside, is_word}
-use Rattle.stream.specs.Front.{Put, put_none, put_more, put_all}
+use Rattle.stream.specs.Front.{Put, put_none, put_more, put_all, front}
 use Rattle.whole.specs.Lists.{cut, length_cut, get_or_cut_entry, get_or_map}
-use Rattle.calls.specs.Gates.{gates_of}
-use Rattle.calls.specs.Lent.{number_at, word_at, list_of, past_list, fitting, Took, took_none, took_all}
+use Rattle.calls.specs.Gates.{gate_of, gates_of}
+use Rattle.calls.specs.Lent.{number_at, word_at, list_of, past_list, params_of, fitting, Took, took_none, took_all}
 use Rattle.calls.specs.Width.{word, byte}
 
 -- ---- places
@@ -91,6 +91,11 @@ module _ {A B : Type 0} (f : A → B) (xs : List A) where
 abbrev pub gate_at : List ℤ → ℕ → Gate
 gate_at xs at = gate (word_at xs at) (word_at xs (at + 1)) (word_at xs (at + 2))
 
+-- the gates of a list are those that begin at each third of its numbers
+pub gates_cut : (xs : List ℤ) → gates_of xs ≡ map (λ row. gate_at row 0) (cut 3 (length xs / 3) xs)
+unfolding gates_of cut
+gates_cut xs = refl
+
 pub length_gates : (xs : List ℤ) → length (gates_of xs) ≡ length xs / 3
 unfolding gates_of cut
 length_gates xs = length-map (cut 3 (length xs / 3) xs) (λ row. gate_at row 0) ∙ length_cut 3 (length xs / 3) xs
@@ -149,6 +154,80 @@ module _ (call : List ℤ) (at : ℕ) where
   more_gates {i = i} p h =
       put_more p (gate_at xs (i * 3)) (gate 0 0 0) h (rw (fitted h).0 (omega (arith, (fitted h).1, length_no_gates))) (rw (fitted h).0 (gate_is xs i (gate 0 0 0) (gate_among h)))
 
+-- ---- what the code takes from the front
+
+-- what is left of a call from a place on is `drop at call`: what the front of it has is what the call has at the place
+module _ (call : List ℤ) (at : ℕ) where
+  pub number_left : (i : ℕ) → number_at (drop at call) i ≡ number_at call (at + i)
+  number_left i = get_or-drop at call i (pos 0)
+
+  pub word_left : (i : ℕ) → word_at (drop at call) i ≡ word_at call (at + i)
+  word_left i = ap word (number_left i)
+
+  front_word : word_at (drop at call) 0 ≡ word_at call at
+  front_word = word_left 0 ∙ ap (word_at call) (add-zero at)
+
+  rest : drop 1 (drop at call) ≡ drop (at + 1) call
+  rest = drop-drop 1 at call
+
+  rest_long : length (drop 1 (drop at call)) ≡ length call - (at + 1)
+  rest_long = ap length rest ∙ length-drop (at + 1) call
+
+  -- after a number, and the place of what is then left
+  pub next_left : drop (next_at call at) call ≡ drop 1 (drop at call)
+  next_left = drop_min (at + 1) call ∙ sym rest
+
+  pub next_place : next_at call at ≡ length call - length (drop 1 (drop at call))
+  next_place = omega (arith, rest_long)
+
+  -- the list whose count stands in front
+  pub list_left : list_at call at ≡ list_of (drop at call)
+  unfolding list_at list_of
+  list_left = by_test (leb (word_at call at) (length call - (at + 1))) refl
+    where
+      by_test : (t : Bool) → leb (word_at call at) (length call - (at + 1)) ≡ t → list_at call at ≡ list_of (drop at call)
+      by_test true e =
+          let within : next_at call at + word_at call at ≤ length call = omega (arith, leb-true (word_at call at) (length call - (at + 1)) e) in
+          rw (le-leb (next_at call at + word_at call at) (length call) within, front_word, rest_long, e, next_left)
+      by_test false e =
+          let beyond : length call < next_at call at + word_at call at = omega (arith, leb-false (word_at call at) (length call - (at + 1)) e) in
+          rw (lt-leb (next_at call at + word_at call at) (length call) beyond, front_word, rest_long, e)
+
+  -- after it, and the place of what is then left
+  pub past_left : drop (past_at call at) call ≡ past_list (drop at call)
+  past_left =
+      drop_min (next_at call at + word_at call at) call
+      ∙ sym (drop-drop (word_at call at) (next_at call at) call)
+      ∙ ap (drop (word_at call at)) next_left
+      ∙ ap (λ (n : ℕ). drop n (drop 1 (drop at call))) (sym front_word)
+
+  pub past_place : past_at call at ≡ length call - length (past_list (drop at call))
+  past_place = omega (arith, ap length (sym past_left), length-drop (past_at call at) call)
+
+  -- the gate in front, and the gates of the list in front
+  pub gate_left : gate_at call at ≡ gate_of (drop at call)
+  gate_left = rw (front_word, word_left 1, word_left 2)
+
+  pub gates_left : lent_gates call at ≡ fitting 5200 (gates_of (list_of (drop at call)))
+  gates_left = rw list_left
+
+  -- what `fill` and `gates` say they took is what the list at the place is
+  pub filled : {B : Type 0} (f : ℤ → B) (found out : List B) (n : ℕ) → Took (map f (list_of (drop at call))) found n out → Took (map f (list_at call at)) found n out
+  filled f found out n took = rw list_left took
+
+  pub filled_same : (found out : List ℤ) (n : ℕ) → Took (map (λ x. x) (list_of (drop at call))) found n out → Took (list_at call at) found n out
+  filled_same found out n took = rw (list_left, sym (map-id (list_of (drop at call)))) took
+
+  pub gates_filled : (out : List Gate) (n : ℕ) → Took (gates_of (list_of (drop at call))) no_gates n out
+      → (n ≡ length (lent_gates call at)) × (n ≤ 5200) × (out ≡ front (lent_gates call at) no_gates)
+  gates_filled out n (counted, put, inside, long) =
+      let same : fitting (length no_gates) (gates_of (list_of (drop at call))) ≡ lent_gates call at = rw (length_no_gates, list_left) in
+      (counted ∙ ap length same, omega (arith, inside.0, long, length_no_gates), put ∙ ap (λ (gs : List Gate). front gs no_gates) same)
+
+-- n, q, L, E and F stand behind the call's number
+pub params_left : (call : List ℤ) → params_at call ≡ params_of (drop 1 call)
+params_left call = rw (word_left call 1 0, word_left call 1 1, word_left call 1 2, word_left call 1 3, word_left call 1 4)
+
 -- ---- bytes
 
 -- the number n by a narrower and a wider test of its size
@@ -167,3 +246,11 @@ pub byte_over : (x : ℤ) → 255 < word x → byte x ≡ 0
 unfolding byte word inside
 byte_over (pos n) h = rw (le-leb 0 n (omega arith)) ((two_tests n (leb n 255) (leb n 4294967295) refl refl).1 (rw (le-leb 0 n (omega arith)) at h))
 byte_over (negsuc n) h = refl
+
+-- so that a byte is what the number is in 32 bits, where that is at most 255, and otherwise 0
+pub byte_narrowed : (x : ℤ) → byte x ≡ cond (leb (word x) 255) (word x) 0
+byte_narrowed x = by_test (leb (word x) 255) refl
+  where
+    by_test : (t : Bool) → leb (word x) 255 ≡ t → byte x ≡ cond t (word x) 0
+    by_test true e = byte_within x (leb-true (word x) 255 e)
+    by_test false e = byte_over x (leb-false (word x) 255 e)

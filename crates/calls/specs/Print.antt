@@ -33,6 +33,19 @@ unfolding put_numbers
 put_numbers_more [] y held = refl
 put_numbers_more (x ∷ ys) y held = put_numbers_more ys y (put_number x held)
 
+-- numbers from 0 up were put one after the other, each with room for its own digits
+unfoldable pub put_words : List ℕ → List ℕ → List ℕ
+put_words [] held = held
+put_words (n ∷ ns) held = put_words ns (put_word n held)
+
+abbrev pub PutWords : {A : Type 0} → (A → ℕ → Type 0) → List A → List ℕ → List ℕ → Type 0
+PutWords converts xs held new = (ns : List ℕ) × AllZip converts xs ns × (new ≡ put_words ns held)
+
+pub put_words_more : (ns : List ℕ) (n : ℕ) (held : List ℕ) → put_words (ns ++ n ∷ []) held ≡ put_word n (put_words ns held)
+unfolding put_words
+put_words_more [] n held = refl
+put_words_more (x ∷ ns) n held = put_words_more ns n (put_word x held)
+
 -- ---- the block then holds something
 
 pub put_word_holds : (n : ℕ) (held : List ℕ) → n < 2 ^ 64 → 0 < length (put_word n held)

@@ -3,7 +3,7 @@ ghost use Rattle.std.specs.Prelude.{◌≡◌, ◌+◌, ◌<◌, pos, length};
 ghost use Rattle.std.specs.List.{flat_map};
 ghost use Rattle.std.specs.Result.{result_unwrap_or};
 ghost use Rattle.refusal.specs.Answer.{answer_to};
-ghost use Rattle.calls.specs.Print.{PutAs, put_word, put_answer, five_of};
+ghost use Rattle.calls.specs.Print.{PutAs, PutWords, put_word, put_answer, five_of};
 
 use refusal::{Params, Refusal};
 use std::io::Write;
@@ -16,6 +16,17 @@ pub fn entries<W: Write, T: Copy + Into<i64>>(output: &mut Output<W>, xs: &[T])
 {
     for x in xs {
         output.number((*x).into());
+    }
+}
+
+// Puts the numbers from 0 up of a buffer: bounds and bytes. By `unsigned`, which asks for room for their own digits, where `entries` asks for room for any number
+// with its sign, and so writes the block out earlier.
+pub fn words<W: Write, T: Copy + Into<u64>>(output: &mut Output<W>, xs: &[T])
+    ensures put { PutWords T.converts xs.now output.old output.new }
+    ensures holds { 0 < length output.old + length xs.now → 0 < length output.new }
+{
+    for n in xs {
+        output.unsigned((*n).into());
     }
 }
 
@@ -45,7 +56,7 @@ pub fn value<W: Write>(output: &mut Output<W>, r: Result<u64, Refusal>)
 
 // Puts the number and the place, and then a parameter set, which is all zeros on a refusal.
 pub fn made<W: Write>(output: &mut Output<W>, r: Result<Params, Refusal>)
-    ensures put { PutAs (λ x y. y ≡ pos x) (five_of r) (put_answer (answer_to r) output.old) output.new }
+    ensures put { PutWords (λ x n. n ≡ x) (five_of r) (put_answer (answer_to r) output.old) output.new }
     ensures holds { 0 < length output.new }
 {
     answer(output, &r);
@@ -53,7 +64,7 @@ pub fn made<W: Write>(output: &mut Output<W>, r: Result<Params, Refusal>)
         Ok(p) => [p.n, p.q, p.l, p.e, p.f],
         Err(_) => [0; 5],
     };
-    entries(output, &five);
+    words(output, &five);
 }
 
 // Puts the four rows of a bench key.

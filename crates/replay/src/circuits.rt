@@ -14,6 +14,13 @@ use refusal::{Params, Refusal};
 use std::io::Write;
 use stream::Output;
 
+// What an array of records holds before it is filled.
+const NO_GATE: Gate = Gate {
+    kind: 0,
+    left: 0,
+    right: 0,
+};
+
 // How a call lends the gates of its circuit: calls 12 and 13 in three lists, calls 17 and 18 as records.
 #[derive(Clone, Copy)]
 pub enum Form {
@@ -62,78 +69,86 @@ impl Circuit<'_> {
     }
 }
 
-// Room for the gates of a circuit in either form: arrays, for nothing here allocates, and three of them, for planning is lent three lists.
-#[derive(Drop)]
-struct Room {
-    kinds: [u32; WIRES],
-    lefts: [u32; WIRES],
-    rights: [u32; WIRES],
-    records: [Gate; WIRES],
+// Takes the gates of a call, three lists of them, into a buffer for each.
+fn lists<'a>(call: &mut Lent<'_>, room: &'a mut [[u32; WIRES]; 3]) -> Circuit<'a> {
+    let k = call.fill(&mut room[0]);
+    let l = call.fill(&mut room[1]);
+    let r = call.fill(&mut room[2]);
+    Circuit::Lists(Lists {
+        kinds: &room[0][..k],
+        lefts: &room[1][..l],
+        rights: &room[2][..r],
+    })
 }
 
-impl Room {
-    // No gates yet.
-    fn new() -> Room {
-        Room {
-            kinds: [0; WIRES],
-            lefts: [0; WIRES],
-            rights: [0; WIRES],
-            records: [Gate {
-                kind: 0,
-                left: 0,
-                right: 0,
-            }; WIRES],
-        }
-    }
+// Takes the gates of a call, records, into a buffer.
+fn records<'a>(call: &mut Lent<'_>, room: &'a mut [Gate; WIRES]) -> Circuit<'a> {
+    let n = call.gates(room);
+    Circuit::Records(&room[..n])
+}
 
-    // Takes the gates of a call.
-    fn circuit(&mut self, form: Form, call: &mut Lent<'_>) -> Circuit<'_> {
-        match form {
-            Form::Lists => {
-                let k = call.fill(&mut self.kinds);
-                let l = call.fill(&mut self.lefts);
-                let r = call.fill(&mut self.rights);
-                Circuit::Lists(Lists {
-                    kinds: &self.kinds[..k],
-                    lefts: &self.lefts[..l],
-                    rights: &self.rights[..r],
-                })
-            }
-            Form::Records => {
-                let n = call.gates(&mut self.records);
-                Circuit::Records(&self.records[..n])
-            }
-        }
-    }
+// Plans, with the rest of the call: the bounds as found. Puts the answer and the bounds.
+fn put_planned<W: Write>(
+    circuit: Circuit<'_>,
+    p: Params,
+    inputs: u32,
+    mut call: Lent<'_>,
+    output: &mut Output<W>,
+)
+    ensures { 0 < length output.new }
+{
+    let mut bounds = [0u32; WIRES];
+    let b = call.fill(&mut bounds);
+    let bounds = &mut bounds[..b];
+    print::answer(output, &circuit.plan(p, inputs, bounds));
+    print::words(output, bounds);
+}
+
+// Plans, with the gates in three lists. They take room in this function alone, and records in the next: a call has room for the form at hand.
+fn plan_lists<W: Write>(p: Params, inputs: u32, mut call: Lent<'_>, output: &mut Output<W>)
+    ensures { 0 < length output.new }
+{
+    let mut room = [[0u32; WIRES]; 3];
+    let circuit = lists(&mut call, &mut room);
+    put_planned(circuit, p, inputs, call, output);
+}
+
+// Plans, with the gates as records.
+fn plan_records<W: Write>(p: Params, inputs: u32, mut call: Lent<'_>, output: &mut Output<W>)
+    ensures { 0 < length output.new }
+{
+    let mut room = [NO_GATE; WIRES];
+    let circuit = records(&mut call, &mut room);
+    put_planned(circuit, p, inputs, call, output);
 }
 
 // Calls 12 and 17: a parameter set, the number of inputs, the gates, and the bounds as found.
 pub fn plan<W: Write>(form: Form, mut call: Lent<'_>, output: &mut Output<W>)
     ensures { 0 < length output.new }
 {
-    let mut room = Room::new();
-    let mut bounds = [0u32; WIRES];
     let p = call.params();
     let inputs = call.word();
-    let circuit = room.circuit(form, &mut call);
-    let b = call.fill(&mut bounds);
-    let bounds = &mut bounds[..b];
-    print::answer(output, &circuit.plan(p, inputs, bounds));
-    print::entries(output, bounds);
+    match form {
+        Form::Lists => plan_lists(p, inputs, call, output),
+        Form::Records => plan_records(p, inputs, call, output),
+    }
 }
 
-// Calls 13 and 18: as calls 12 and 17, with the wires as found before the bounds, and a switching key
-// and scratch after them. The wires stand in a buffer that is lent.
-pub fn evaluate<W: Write>(form: Form, mut call: Lent<'_>, output: &mut Output<W>, wires: &mut [i64])
+// Evaluates, with the rest of the call: the wires and the bounds as found, a switching key and scratch as found. Puts the answer and what is left
+// in the three buffers.
+fn put_evaluated<W: Write>(
+    circuit: Circuit<'_>,
+    p: Params,
+    inputs: u32,
+    mut call: Lent<'_>,
+    output: &mut Output<W>,
+    wires: &mut [i64],
+)
     ensures holds { 0 < length output.new }
     ensures wires_len_unchanged { length wires.new ≡ length wires.old }
 {
-    let mut room = Room::new();
     let mut bounds = [0u32; WIRES];
     let mut scratch = [0i64; MIDDLE];
-    let p = call.params();
-    let inputs = call.word();
-    let circuit = room.circuit(form, &mut call);
     let n = call.fill(wires);
     let b = call.fill(&mut bounds);
     let key = call.list();
@@ -144,6 +159,52 @@ pub fn evaluate<W: Write>(form: Form, mut call: Lent<'_>, output: &mut Output<W>
     let answer = circuit.evaluate(p, inputs, wires, bounds, key, scratch);
     print::answer(output, &answer);
     print::entries(output, wires);
-    print::entries(output, bounds);
+    print::words(output, bounds);
     print::entries(output, scratch);
+}
+
+// Evaluates, with the gates in three lists.
+fn evaluate_lists<W: Write>(
+    p: Params,
+    inputs: u32,
+    mut call: Lent<'_>,
+    output: &mut Output<W>,
+    wires: &mut [i64],
+)
+    ensures holds { 0 < length output.new }
+    ensures wires_len_unchanged { length wires.new ≡ length wires.old }
+{
+    let mut room = [[0u32; WIRES]; 3];
+    let circuit = lists(&mut call, &mut room);
+    put_evaluated(circuit, p, inputs, call, output, wires);
+}
+
+// Evaluates, with the gates as records.
+fn evaluate_records<W: Write>(
+    p: Params,
+    inputs: u32,
+    mut call: Lent<'_>,
+    output: &mut Output<W>,
+    wires: &mut [i64],
+)
+    ensures holds { 0 < length output.new }
+    ensures wires_len_unchanged { length wires.new ≡ length wires.old }
+{
+    let mut room = [NO_GATE; WIRES];
+    let circuit = records(&mut call, &mut room);
+    put_evaluated(circuit, p, inputs, call, output, wires);
+}
+
+// Calls 13 and 18: as calls 12 and 17, with the wires as found before the bounds, and a switching key
+// and scratch after them. The wires stand in a buffer that is lent.
+pub fn evaluate<W: Write>(form: Form, mut call: Lent<'_>, output: &mut Output<W>, wires: &mut [i64])
+    ensures holds { 0 < length output.new }
+    ensures wires_len_unchanged { length wires.new ≡ length wires.old }
+{
+    let p = call.params();
+    let inputs = call.word();
+    match form {
+        Form::Lists => evaluate_lists(p, inputs, call, output, wires),
+        Form::Records => evaluate_records(p, inputs, call, output, wires),
+    }
 }

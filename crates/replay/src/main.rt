@@ -15,7 +15,8 @@ use stream::{Input, Output};
 // The most calls of a run. A proved loop has to end, and nothing says that the input does.
 const CALLS: usize = 4294967296;
 
-// Does a call and puts its answer.
+// Does a call and puts its answer. By itself, and not in the frame of `main`: its buffers then take no stack before there is a call.
+#[inline(never)]
 fn answer<W: Write>(kind: Kind, call: Lent<'_>, output: &mut Output<W>, long: &mut [i64]) {
     match kind {
         Kind::Make => sets::make(call, output),
