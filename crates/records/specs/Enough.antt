@@ -1,5 +1,5 @@
--- The gates that are listed are enough: of a run that is too long planning and evaluation answer 1 or 2, whatever the gates are, and leave all as
--- found; and a run is listed whole, or so far that what is listed is too long.
+-- The first gates of a run are enough: of a run that is too long planning and evaluation answer 1 or 2, whatever the gates are, and leave all as found; and the
+-- first gates are all of the run, or so many that they are too long too. The code has no need of it: it lends the whole run (`records::plan::plan_gates`).
 use Rattle.std.specs.Prelude.{◌≡◌, refl, Bool, true, false, List, ◌∷◌, ℕ, ◌<◌, ltb, ℤ, length, take}
 use Rattle.std.proofs.Common.{sym, ◌∙◌, arith, take_all, length-take-le, ltb-true, ltb-false}
 use Rattle.std.proofs.Math.Path.{ap}
@@ -76,7 +76,7 @@ module _ (a : EvaluateLoans) (gates : List Gate) (long : 4096 < length gates) wh
   unfolding evaluate_scratch
   scratch_kept = rw number (early_kept bad _ a.scratch)
 
--- ---- what is listed
+-- ---- the first gates
 
 -- what is the same for all runs that are too long is that of the whole run
 enough : {X : Type 0} (f : List Gate → X) (z : X) → ((gates : List Gate) → 4096 < length gates → f gates ≡ z)
@@ -96,7 +96,7 @@ module _ (gates : List Gate) where
   abbrev listed : List Gate
   listed = take (listed_count (length gates)) (first_gates gates)
 
-  -- **what is promised of the gates that are listed is promised of the run**
+  -- **what is promised of the first gates is promised of the run**
   pub plan_enough : (a : PlanLoans) {r : Answer} {bounds : List ℕ} → PlanPromise (plan_of a listed) r bounds → PlanPromise (plan_of a gates) r bounds
   plan_enough a e =
       record {

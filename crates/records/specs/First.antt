@@ -1,5 +1,5 @@
--- A run of gate records as far as its length and its gates count: the gates that are listed, and their kinds, lefts and rights. A run of more gates
--- than a circuit may have is listed one gate beyond that, so that it is still seen to be too long.
+-- A run of gate records: its first gates, as many as there are, and one more than a circuit may have where there are more, so that the run is still seen to be
+-- too long; and the kinds, lefts and rights of gates. A caller of the numeric core may list them so. The code lists nothing: it lends a run where it lies (`Records`).
 use Rattle.std.specs.Prelude.{◌≡◌, Bool, true, false, cond, List, [], ◌∷◌, ◌++◌, map, ℕ, suc, ◌≤◌, ◌<◌, ltb, length, get_or, set, take, drop, replicate}
 use Rattle.std.proofs.Math.Path.{refl, sym}
 use Rattle.std.proofs.Common.{ap, ◌∙◌, arith, take_at, length-take-le, ltb-true, ltb-false, lt-ltb, le-ltb}
@@ -10,16 +10,16 @@ use Rattle.std.proofs.Math.Seq.{length_front, paste-suc}
 use Rattle.circuit.specs.declared.Gate.{Gate}
 use Rattle.circuit.specs.Circuits.{gate, records}
 
--- ---- the gates that are listed
+-- ---- the first gates of a run
 
--- 1 to 4,096 gates, and one more
+-- how many: 4,096 gates, and one more, at most
 unfoldable pub listed_count : ℕ → ℕ
 listed_count gates = cond (ltb gates 4097) gates 4097
 
 unfoldable pub no_gates : List Gate
 no_gates = replicate 4097 (gate 0 0 0)
 
--- the gates that are listed, and zeros behind them
+-- these gates, and zeros behind them
 unfoldable pub first_gates : List Gate → List Gate
 first_gates gates = take (listed_count (length gates)) gates ++ drop (listed_count (length gates)) no_gates
 
@@ -87,7 +87,7 @@ module _ (m : ℕ) where
   unfolding listed_count
   count_most = (count_cases (ltb m 4097) refl).1
 
--- the gates listed, taken again
+-- these gates, taken again
 pub take_first : (gates : List Gate) → take (listed_count (length gates)) (first_gates gates) ≡ take (listed_count (length gates)) gates
 unfolding first_gates
 take_first gates =

@@ -1,7 +1,8 @@
 -- Document 01, *Refusal numbers*: the number and the place of each refusal, and what a call answers with: "0 means done", and "The place returned is the first
 -- offending gate for 9 and 10 over a circuit, otherwise 0".
-use Rattle.std.specs.Prelude.{◌≡◌, refl, Bool, ℕ, ◌<◌, cond, eqb, Result, Ok, Err}
-use Rattle.std.proofs.Common.{sym, ap, ◌∙◌, arith}
+use Rattle.std.specs.Prelude.{◌≡◌, refl, ◌≢◌, Bool, true, false, ℕ, ◌≤◌, ◌<◌, cond, eqb, Result, Ok, Err}
+use Rattle.std.proofs.Common.{sym, ap, ◌∙◌, arith, eqb-true}
+use Rattle.std.proofs.lemmas.Bool.{eqb-false}
 use Rattle.refusal.specs.declared.Refusal.{Refusal}
 use Rattle.refusal.specs.declared.Refusal.TheVariants.{Parameters, Counts, Length, Key, Bit, Entry, Error, Bound, Gate, Budget, Mark, FileLength}
 
@@ -65,7 +66,7 @@ refusal_numbered Mark = omega arith
 refusal_numbered FileLength = omega arith
 
 -- the refusal of a number and a place
-unfoldable refusal_of : ℕ → ℕ → Refusal
+unfoldable pub refusal_of : ℕ → ℕ → Refusal
 refusal_of k at =
     cond (eqb k 1) Parameters
     (cond (eqb k 2) Counts
@@ -78,6 +79,32 @@ refusal_of k at =
     (cond (eqb k 9) (Gate at)
     (cond (eqb k 10) (Budget at)
     (cond (eqb k 11) Mark FileLength))))))))))
+
+-- it has that number, where it is one of the twelve
+pub numbered : (k at : ℕ) → 0 < k → k ≤ 12 → refusal_number (refusal_of k at) ≡ k
+unfolding refusal_of
+numbered k at low high =
+    or 1 _ _ refl λ a. or 2 _ _ refl λ b. or 3 _ _ refl λ c. or 4 _ _ refl λ d. or 5 _ _ refl λ e. or 6 _ _ refl λ f. or 7 _ _ refl λ g. or 8 _ _ refl λ h. or 9 _ _ refl λ i. or 10 _ _ refl λ j. or 11 _ _ refl λ l.
+    omega (arith, low, high, a, b, c, d, e, f, g, h, i, j, l)
+  where
+    or : (m : ℕ) (x y : Refusal) → refusal_number x ≡ m → (k ≢ m → refusal_number y ≡ k) → refusal_number (cond (eqb k m) x y) ≡ k
+    or m x y e later = by_test (eqb k m) refl
+      where
+        by_test : (t : Bool) → eqb k m ≡ t → refusal_number (cond t x y) ≡ k
+        by_test true same = e ∙ sym (eqb-true k m same)
+        by_test false other = later (eqb-false k m other)
+
+-- and where none is stated it has none
+pub placed : (k : ℕ) → refusal_place (refusal_of k 0) ≡ 0
+unfolding refusal_of
+placed k = or 1 _ _ refl (or 2 _ _ refl (or 3 _ _ refl (or 4 _ _ refl (or 5 _ _ refl (or 6 _ _ refl (or 7 _ _ refl (or 8 _ _ refl (or 9 _ _ refl (or 10 _ _ refl (or 11 _ _ refl refl))))))))))
+  where
+    or : (m : ℕ) (x y : Refusal) → refusal_place x ≡ 0 → refusal_place y ≡ 0 → refusal_place (cond (eqb k m) x y) ≡ 0
+    or m x y e f = by_test (eqb k m)
+      where
+        by_test : (t : Bool) → refusal_place (cond t x y) ≡ 0
+        by_test true = e
+        by_test false = f
 
 told : (r : Refusal) → refusal_of (refusal_number r) (refusal_place r) ≡ r
 unfolding refusal_of

@@ -1,6 +1,6 @@
 -- Document 01, *Parameters*: the ranges of n, q, L, E and F, the six house sheets, and what the maker of a set answers.
-use Rattle.std.specs.Prelude.{◌≡◌, refl, Bool, true, false, not, cond, ◌&&◌, List, [], ◌∷◌, map, ℕ, ◌*◌, ◌/◌, ◌%◌, ◌≤◌, ◌<◌, leb, ltb, eqb, length, get_or, Result, Ok, Err}
-use Rattle.std.proofs.Common.{sym, ap, ◌∙◌, arith}
+use Rattle.std.specs.Prelude.{◌≡◌, refl, Bool, true, false, not, cond, ◌&&◌, List, [], ◌∷◌, map, ℕ, zero, suc, ◌*◌, ◌/◌, ◌%◌, ◌≤◌, ◌<◌, leb, ltb, eqb, length, get_or, Result, Ok, Err}
+use Rattle.std.proofs.Common.{ap, ◌∙◌, arith}
 use Rattle.std.proofs.Math.ListN.{get_or-map}
 use borrow.Author.Tests.{ltb-true, leb-true, eqb-true, lt-ltb, le-ltb, le-leb, eq-eqb}
 use Rattle.whole.specs.Tests.{and_left, and_right, and_both}
@@ -8,7 +8,7 @@ use Rattle.whole.specs.Lists.{every}
 use Rattle.refusal.specs.declared.Params.{Params}
 use Rattle.refusal.specs.declared.Refusal.{Refusal}
 use Rattle.refusal.specs.declared.Refusal.TheVariants.{Parameters}
-use Rattle.refusal.specs.Answer.{refusal_number, refusal_place}
+use Rattle.refusal.specs.Answer.{refusal_number, refusal_place, refusal_of, numbered, placed}
 use Rattle.refusal.specs.First.{Row, row, first_of, first_last, done_or}
 
 abbrev pub params : ℕ → ℕ → ℕ → ℕ → ℕ → Params
@@ -82,62 +82,86 @@ unfoldable pub made_params : Result Params Refusal → Params
 made_params (Ok p) = p
 made_params (Err r) = no_params
 
--- the answer about the parameters p, of one row with the test t: the set, or refusal 1
-unfoldable pub answered : Bool → Params → Result Params Refusal
-answered t p = cond t (Err Parameters) (Ok p)
+-- the answer with the number k, about the parameters p
+unfoldable pub answered : ℕ → Params → Result Params Refusal
+answered k p = done_or k (Ok p) (Err (refusal_of k 0))
 
 unfoldable pub made : Params → Result Params Refusal
-made p = answered (not (in_range p)) p
+made p = answered (make_number p) p
 
 unfoldable pub made_sheet : ℕ → Result Params Refusal
-made_sheet k = answered (not (ltb k (length sheets))) (sheet k)
+made_sheet k = answered (sheet_number k) (sheet k)
 
-pub answered_number : (t : Bool) (p : Params) → made_number (answered t p) ≡ first_of (row 1 t ∷ [])
-unfolding made_number answered
-answered_number true p = sym (first_last 1 true)
-answered_number false p = sym (first_last 1 false)
+-- where a refusal has the number
+pub answered_number : (k : ℕ) (p : Params) → k ≤ 12 → made_number (answered k p) ≡ k
+unfolding made_number answered done_or
+answered_number zero p h = refl
+answered_number (suc k) p h = numbered (suc k) 0 (omega arith) h
 
-pub answered_place : (t : Bool) (p : Params) → made_place (answered t p) ≡ 0
-unfolding made_place answered
-answered_place true p = refl
-answered_place false p = refl
+pub answered_place : (k : ℕ) (p : Params) → made_place (answered k p) ≡ 0
+unfolding made_place answered done_or
+answered_place zero p = refl
+answered_place (suc k) p = placed (suc k)
 
-pub answered_params : (t : Bool) (p : Params) → made_params (answered t p) ≡ done_or (first_of (row 1 t ∷ [])) p no_params
+pub answered_params : (k : ℕ) (p : Params) → made_params (answered k p) ≡ done_or k p no_params
 unfolding made_params answered done_or
-answered_params true p = rw (first_last 1 true)
-answered_params false p = rw (first_last 1 false)
+answered_params zero p = refl
+answered_params (suc k) p = refl
+
+-- of any refusal, with its place
+pub refused_number : (d : Refusal) → made_number (Err d) ≡ refusal_number d
+unfolding made_number
+refused_number d = refl
+
+pub refused_place : (d : Refusal) → made_place (Err d) ≡ refusal_place d
+unfolding made_place
+refused_place d = refl
+
+pub refused_params : (d : Refusal) → made_params (Err d) ≡ no_params
+unfolding made_params
+refused_params d = refl
+
+-- of one row with the test t, of refusal 1
+pub row_answered : (t : Bool) (p : Params) → answered (first_of (row 1 t ∷ [])) p ≡ cond t (Err Parameters) (Ok p)
+unfolding answered done_or refusal_of
+row_answered true p = rw first_last refl
+row_answered false p = rw first_last refl
+
+pub row_number : (t : Bool) (p : Params) → made_number (answered (first_of (row 1 t ∷ [])) p) ≡ first_of (row 1 t ∷ [])
+row_number true p = rw (first_last 1 true) (answered_number 1 p (omega arith))
+row_number false p = rw (first_last 1 false) (answered_number 0 p (omega arith))
 
 -- what is answered, and beside it its number, place and parameters
-abbrev pub Values : ℕ → Params → Result Params Refusal → Result Params Refusal → Type 0
-Values k p a r = (r ≡ a) × ((made_number r ≡ k) × ((made_place r ≡ 0) × (made_params r ≡ done_or k p no_params)))
+abbrev pub Values : ℕ → Params → Result Params Refusal → Type 0
+Values k p r = (r ≡ answered k p) × ((made_number r ≡ k) × ((made_place r ≡ 0) × (made_params r ≡ done_or k p no_params)))
 
-values : (t : Bool) (p : Params) {r : Result Params Refusal} → r ≡ answered t p → Values (first_of (row 1 t ∷ [])) p (answered t p) r
-values t p e = (e, (ap made_number e ∙ answered_number t p, (ap made_place e ∙ answered_place t p, ap made_params e ∙ answered_params t p)))
+values : (t : Bool) (p : Params) {r : Result Params Refusal} → r ≡ answered (first_of (row 1 t ∷ [])) p → Values (first_of (row 1 t ∷ [])) p r
+values t p e = (e, (ap made_number e ∙ row_number t p, (ap made_place e ∙ answered_place _ p, ap made_params e ∙ answered_params _ p)))
 
-pub made_values : (p : Params) {r : Result Params Refusal} → r ≡ made p → Values (make_number p) p (made p) r
+pub made_values : (p : Params) {r : Result Params Refusal} → r ≡ made p → Values (make_number p) p r
 unfolding made make_rows
 made_values p e = values (not (in_range p)) p e
 
-pub sheet_values : (k : ℕ) {r : Result Params Refusal} → r ≡ made_sheet k → Values (sheet_number k) (sheet k) (made_sheet k) r
+pub sheet_values : (k : ℕ) {r : Result Params Refusal} → r ≡ made_sheet k → Values (sheet_number k) (sheet k) r
 unfolding made_sheet sheet_rows
 sheet_values k e = values (not (ltb k (length sheets))) (sheet k) e
 
 -- the maker's two answers, and the sheet's
 pub made_set : (p : Params) → in_range p ≡ true → made p ≡ Ok p
-unfolding made answered
-made_set p e = rw e
+unfolding made make_rows answered done_or
+made_set p e = rw (first_last, e)
 
 pub made_refused : (p : Params) → in_range p ≡ false → made p ≡ Err Parameters
-unfolding made answered
-made_refused p e = rw e
+unfolding made make_rows answered done_or refusal_of
+made_refused p e = rw (first_last, e)
 
 pub sheet_set : (k : ℕ) → k < 6 → made_sheet k ≡ Ok (of_row (get_or sheet_table k []))
-unfolding made_sheet answered sheet sheets sheet_table
-sheet_set k h = rw (lt-ltb k 6 h) (ap Ok (get_or-map of_row sheet_table k []))
+unfolding made_sheet sheet_rows answered done_or sheet sheets sheet_table
+sheet_set k h = rw (first_last, lt-ltb k 6 h) (ap Ok (get_or-map of_row sheet_table k []))
 
 pub sheet_refused : (k : ℕ) → 6 ≤ k → made_sheet k ≡ Err Parameters
-unfolding made_sheet answered sheets sheet_table
-sheet_refused k h = rw (le-ltb k 6 h)
+unfolding made_sheet sheet_rows answered done_or refusal_of sheets sheet_table
+sheet_refused k h = rw (first_last, le-ltb k 6 h)
 
 -- ---- the ranges as facts
 

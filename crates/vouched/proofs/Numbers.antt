@@ -1,5 +1,5 @@
--- What a call answers, by its number: how the number comes row by row, and what is answered and left where it is 0 and where it is not. The code answers with refusals
--- (`refusal/proofs/Given`); what it gives has the number that these laws give (`numbers_given`).
+-- What a call answers, by its number: how the number comes row by row, and what is answered and left where it is 0 and where it is not. No function of the code works
+-- a number out: the code answers with refusals (`refusal/proofs/Given`), and what it gives has the number that these laws give (`numbers_given`).
 use Rattle.std.specs.Prelude.{◌≡◌, ◌≢◌, Bool, true, false, cond, List, [], ◌∷◌, ℕ, Result}
 use Rattle.std.proofs.Common.{sym, ap, ◌∙◌}
 use Rattle.refusal.specs.declared.Refusal.{Refusal}
@@ -8,7 +8,7 @@ use Rattle.refusal.specs.First.{Row, row, refused, first_of, place_of, answer_of
 use Rattle.refusal.proofs.Given as code
 use Rattle.scheme.specs.Calls.{Bounded, Decrypted, bounded, decrypted, states, decrypts_to}
 
--- ---- the number, row by row, as a `_number` function comes to it
+-- ---- the number, row by row, as a function that works it out comes to it
 
 -- n is the number of the rows
 pub record Gives (rows : List Row) (n : ℕ) : Type 0 where
