@@ -1,4 +1,5 @@
-// The calls on circuit files. Each takes what the call lends, does it and puts its answer, and what it left in a buffer.
+// The calls on circuit files. Each takes what the call lends, does it and puts its answer, and what it left in a buffer. None is inlined: the arrays of
+// one would take stack in all calls.
 ghost use Rattle.std.specs.Prelude.{◌<◌, length};
 
 use calls::lent::Lent;
@@ -9,6 +10,7 @@ use stream::Output;
 
 // Call 14: a file.
 #[tactic(auto, using(calls::specs::Print::put_word_holds))]
+#[inline(never)]
 pub fn check<W: Write>(mut call: Lent<'_>, output: &mut Output<W>)
     ensures { 0 < length output.new }
 {
@@ -19,6 +21,7 @@ pub fn check<W: Write>(mut call: Lent<'_>, output: &mut Output<W>)
 
 // Call 15: a file, and its bounds as found.
 #[tactic(auto, using(calls::specs::Print::put_word_holds))]
+#[inline(never)]
 pub fn plan<W: Write>(mut call: Lent<'_>, output: &mut Output<W>)
     ensures { 0 < length output.new }
 {
@@ -32,6 +35,7 @@ pub fn plan<W: Write>(mut call: Lent<'_>, output: &mut Output<W>)
 }
 
 // Call 16: a file, and the buffer of its text as found.
+#[inline(never)]
 pub fn print<W: Write>(mut call: Lent<'_>, output: &mut Output<W>)
     ensures { 0 < length output.new }
 {

@@ -40,7 +40,8 @@ pub fn not<W: Write>(mut call: Lent<'_>, output: &mut Output<W>)
 }
 
 // Call 11: a parameter set, two ciphertexts, each with its bound, a switching key, scratch and the
-// result, both as found.
+// result, both as found. Not inlined, for its scratch.
+#[inline(never)]
 pub fn and<W: Write>(mut call: Lent<'_>, output: &mut Output<W>)
     ensures { 0 < length output.new }
 {

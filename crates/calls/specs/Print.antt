@@ -1,6 +1,6 @@
 -- What the block of an `Output` holds after what a call answered or left is put. Assumes nothing.
 use Rattle.std.specs.Prelude.{◌≡◌, refl, ℕ, ◌+◌, ◌^◌, ◌<◌, ◌≤◌, ℤ, List, [], ◌∷◌, ◌++◌, length, decimal, Result, Ok, Err}
-use Rattle.std.proofs.Common.{arith, lit<, length-append, le-leb}
+use Rattle.std.proofs.Common.{sym, ap₂, ◌∙◌, arith, lit<, length-append, le-leb}
 use Rattle.std.proofs.lemmas.Fmt.{length-decimal-le}
 use Rattle.std.proofs.lemmas.Slice.Zip.{AllZip-long}
 use Rattle.std.specs.Fmt.{signed_decimal}
@@ -45,6 +45,10 @@ pub put_words_more : (ns : List ℕ) (n : ℕ) (held : List ℕ) → put_words (
 unfolding put_words
 put_words_more [] n held = refl
 put_words_more (x ∷ ns) n held = put_words_more ns n (put_word x held)
+
+-- one number more, told otherwise
+pub put_words_next : (ns : List ℕ) (held : List ℕ) {m n : ℕ} {old new : List ℕ} → old ≡ put_words ns held → new ≡ put_word m old → m ≡ n → new ≡ put_words (ns ++ n ∷ []) held
+put_words_next ns held {n = n} h e f = e ∙ ap₂ put_word f h ∙ sym (put_words_more ns n held)
 
 -- ---- the block then holds something
 

@@ -19,8 +19,8 @@ pub fn entries<W: Write, T: Copy + Into<i64>>(output: &mut Output<W>, xs: &[T])
     }
 }
 
-// Puts the numbers from 0 up of a buffer: bounds and bytes. By `unsigned`, which asks for room for their own digits, where `entries` asks for room for any number
-// with its sign, and so writes the block out earlier.
+// Puts the numbers from 0 up of a buffer: bounds and bytes. By `unsigned`, which asks for room for their own digits; `entries` asks for room for any
+// number with its sign, and so writes the block out earlier.
 pub fn words<W: Write, T: Copy + Into<u64>>(output: &mut Output<W>, xs: &[T])
     ensures put { PutWords T.converts xs.now output.old output.new }
     ensures holds { 0 < length output.old + length xs.now → 0 < length output.new }

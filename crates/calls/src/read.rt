@@ -5,8 +5,7 @@ ghost use Rattle.std.specs.Prelude.{◌≡◌, ◌≤◌, length, IfSome};
 ghost use Rattle.stream.specs.Bounds.{CountIn};
 
 use crate::kind::Kind;
-use std::io::Read;
-use stream::Input;
+use stream::Numbers;
 
 // The most entries of a key and of a list of n, n² and n³ entries. They serve up to n = 64, and a
 // little more, so that a wrong length can be tried.
@@ -109,19 +108,19 @@ impl Width {
 // Where a call is read from, and the store that it is put into, which has so many numbers of it. Each method says that it keeps the store
 // itself, of which two values speak, before and after, so that no ghost field can. The store is lent, for nothing here allocates.
 #[derive(Drop)]
-struct Reader<'a, R> {
-    input: &'a mut Input<R>,
+struct Reader<'a, N> {
+    input: &'a mut N,
     store: &'a mut [i64],
     len: usize,
     ghost within: { len ≤ length store.now },
 }
 
-impl<R: Read> Reader<'_, R> {
+impl<N: Numbers> Reader<'_, N> {
     // The next number, which must have this width.
     fn number(&mut self, width: Width) -> Option<i64>
         ensures { self.new.store.ghost_name ≡ self.old.store.ghost_name }
     {
-        let x = self.input.number()?;
+        let x = self.input.next()?;
         if self.len == self.store.len() || !width.holds(x) {
             return None;
         }
@@ -161,7 +160,7 @@ impl<R: Read> Reader<'_, R> {
     fn read(&mut self) -> Option<Kind>
         ensures { self.new.store.ghost_name ≡ self.old.store.ghost_name }
     {
-        let kind = Kind::try_from(self.input.number()?).ok()?;
+        let kind = Kind::try_from(self.input.next()?).ok()?;
         for part in parts(kind) {
             self.part(*part)?;
         }
@@ -170,7 +169,7 @@ impl<R: Read> Reader<'_, R> {
 }
 
 // The next call, with what it lends at the front of the store: how many numbers that is.
-pub fn call<R: Read>(input: &mut Input<R>, store: &mut [i64]) -> Option<(Kind, usize)>
+pub fn call<N: Numbers>(input: &mut N, store: &mut [i64]) -> Option<(Kind, usize)>
     ensures count_in { IfSome result (λ c. CountIn c.1 store.new) }
     ensures store_len_unchanged { length store.new ≡ length store.old }
 {

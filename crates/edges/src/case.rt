@@ -72,7 +72,7 @@ pub enum Case<'a> {
 
 // The next case, with its lists at the front of `left` and `right`. Nothing more is read once an operand is missing.
 pub fn read<'a, R: Read>(
-    input: &mut Input<R>,
+    input: &mut Input<'_, R>,
     left: &'a mut [i64],
     right: &'a mut [i64],
 ) -> Option<Case<'a>>
@@ -142,7 +142,7 @@ pub fn read<'a, R: Read>(
 }
 
 // The next list, at the front of `out`.
-fn list<'a, R: Read>(input: &mut Input<R>, out: &'a mut [i64]) -> Option<&'a [i64]>
+fn list<'a, R: Read>(input: &mut Input<'_, R>, out: &'a mut [i64]) -> Option<&'a [i64]>
     ensures { IfSome result (λ _. WhiteNext input.new) }
 {
     let n = input.list(out)?;

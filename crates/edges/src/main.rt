@@ -101,7 +101,7 @@ fn rounded(q: Modulus, a: i64) -> Option<i64> {
 
 // Reads and answers the cases.
 fn run<R: Read, W: Write>(
-    input: &mut Input<R>,
+    input: &mut Input<'_, R>,
     output: &mut Output<W>,
     first: &mut [i64; FIRST],
     second: &mut [i64; SECOND],
@@ -116,7 +116,8 @@ fn run<R: Read, W: Write>(
 }
 
 fn main(rt: HostRuntime) {
-    let mut input = Input::new(rt.stdin());
+    let mut block = [0u8; 4096];
+    let mut input = Input::new(rt.stdin(), &mut block);
     let mut output = Output::new(rt.stdout());
     let mut first = [0i64; FIRST];
     let mut second = [0i64; SECOND];

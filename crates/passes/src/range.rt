@@ -37,8 +37,8 @@ pub fn all_big_residues(xs: &[i64], q: Modulus) -> bool
     all_below(xs, wide * wide / 2)
 }
 
-// Whether every error is at most limit in size: a size beyond it and the room that it leaves below 2^63 sum to 2^63 or more. No exit inside the pass, as in
-// `all_below`.
+// Whether every error is at most limit in size: a size beyond it and the room that the limit leaves below 2^63 sum to 2^63 or more. No exit inside the
+// pass, as in `all_below`.
 pub fn all_within(errors: &[i64], limit: u32) -> bool
     ensures { result ≡ every (λ e. nat_le (unsigned_abs e) limit) errors.now }
 {

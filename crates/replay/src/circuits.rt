@@ -104,7 +104,9 @@ fn put_planned<W: Write>(
     print::words(output, bounds);
 }
 
-// Plans, with the gates in three lists. They take room in this function alone, and records in the next: a call has room for the form at hand.
+// Plans, with the gates in three lists. They take room in this function alone, and records in the next, neither of which is inlined: a call has room for
+// the form at hand, and other calls for none.
+#[inline(never)]
 fn plan_lists<W: Write>(p: Params, inputs: u32, mut call: Lent<'_>, output: &mut Output<W>)
     ensures { 0 < length output.new }
 {
@@ -114,6 +116,7 @@ fn plan_lists<W: Write>(p: Params, inputs: u32, mut call: Lent<'_>, output: &mut
 }
 
 // Plans, with the gates as records.
+#[inline(never)]
 fn plan_records<W: Write>(p: Params, inputs: u32, mut call: Lent<'_>, output: &mut Output<W>)
     ensures { 0 < length output.new }
 {
@@ -164,6 +167,7 @@ fn put_evaluated<W: Write>(
 }
 
 // Evaluates, with the gates in three lists.
+#[inline(never)]
 fn evaluate_lists<W: Write>(
     p: Params,
     inputs: u32,
@@ -180,6 +184,7 @@ fn evaluate_lists<W: Write>(
 }
 
 // Evaluates, with the gates as records.
+#[inline(never)]
 fn evaluate_records<W: Write>(
     p: Params,
     inputs: u32,

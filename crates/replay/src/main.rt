@@ -15,7 +15,7 @@ use stream::{Input, Output};
 // The most calls of a run. A proved loop has to end, and nothing says that the input does.
 const CALLS: usize = 4294967296;
 
-// Does a call and puts its answer. By itself, and not in the frame of `main`: its buffers then take no stack before there is a call.
+// Does a call and puts its answer. Not inlined, and neither is a call with large arrays: they take no stack of what needs none.
 #[inline(never)]
 fn answer<W: Write>(kind: Kind, call: Lent<'_>, output: &mut Output<W>, long: &mut [i64]) {
     match kind {
@@ -42,7 +42,7 @@ fn answer<W: Write>(kind: Kind, call: Lent<'_>, output: &mut Output<W>, long: &m
 
 // One call after another, until the input ends or a call cannot be read.
 fn answer_all<R: Read, W: Write>(
-    input: &mut Input<R>,
+    input: &mut Input<'_, R>,
     output: &mut Output<W>,
     store: &mut [i64],
     long: &mut [i64],
@@ -64,7 +64,8 @@ fn answer_all<R: Read, W: Write>(
 }
 
 fn main(rt: HostRuntime) {
-    let mut input = Input::new(rt.stdin());
+    let mut block = [0u8; 65536];
+    let mut input = Input::new(rt.stdin(), &mut block);
     let mut output = Output::new(rt.stdout());
     // Arrays, for nothing here allocates.
     let mut store = [0i64; STORE];

@@ -16,35 +16,44 @@ const MOST: usize = 65536;
 // of an i64, and still a u64.
 const ROOM: u64 = 922337203685477580;
 
-// The bytes of the block. It is read anew when all of them are taken, so that a short one takes no more of an input that others share, and little of the stack.
-const BLOCK: usize = 4096;
+// What numbers are read from. A function over any of it is spared the lifetime of a block that is lent.
+pub trait Numbers {
+    fn next(&mut self) -> Option<i64>;
+}
 
 // A reader, the block that was read last, and what is left of it: its bytes from `at` up to, not
-// including, `end`. A contract sees these bytes.
+// including, `end`. A contract sees these bytes. The block is lent, so that each program says how
+// much it takes at once of an input that others may share.
 #[derive(Drop)]
-pub struct Input<R> {
+pub struct Input<'a, R> {
     reader: R,
-    block: [u8; BLOCK],
+    block: &'a mut [u8],
     at: usize,
     end: usize,
 }
 
-impl<R> Model for Input<R> {
+impl<'a, R> Model for Input<'a, R> {
     ghost Value = { List ℕ };
 
-    ghost view = { λ i. slice_range i.block i.at i.end };
+    ghost view = { λ i. slice_range i.block.now i.at i.end };
 
-    ghost invariant = { λ i. (i.at ≤ i.end) × (i.end ≤ 4096) };
+    ghost invariant = { λ i. (i.at ≤ i.end) × (i.end ≤ length i.block.now) };
 }
 
-impl<R: Read> Input<R> {
+impl<'a, R: Read> Numbers for Input<'a, R> {
+    fn next(&mut self) -> Option<i64> {
+        self.number()
+    }
+}
+
+impl<'a, R: Read> Input<'a, R> {
     // Nothing is left of a block that was never read: the first call of `number` reads it.
-    pub fn new(reader: R) -> Input<R>
+    pub fn new(reader: R, block: &'a mut [u8]) -> Input<'a, R>
         ensures { result ≡ [] }
     {
         Input {
             reader,
-            block: [0; BLOCK],
+            block,
             at: 0,
             end: 0,
         }
@@ -85,10 +94,19 @@ impl<R: Read> Input<R> {
         ensures { IfOk result (λ b. b ≡ slice_get self.new 0) }
     {
         if self.at == self.end {
-            self.end = self.reader.read(&mut self.block)?;
+            let block = &mut *self.block;
+            self.end = self.reader.read(block)?;
             self.at = 0;
         }
-        Ok(self.block[self.at..self.end].first().copied())
+        Ok(self.first())
+    }
+
+    // The first byte of what is left of the block, where there is one.
+    fn first(&self) -> Option<u8>
+        ensures { result ≡ slice_get self.now 0 }
+    {
+        let block = &*self.block;
+        block[self.at..self.end].first().copied()
     }
 
     // Takes the next byte.

@@ -5,5 +5,5 @@
 mod input;
 mod output;
 
-pub use input::Input;
+pub use input::{Input, Numbers};
 pub use output::{Output, decimal};

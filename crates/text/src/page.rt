@@ -46,6 +46,7 @@ impl<'a> Page<'a> {
         ensures length { length self.new ≡ length self.old + length bytes.now }
     {
         let to = self.len + bytes.len();
+        // by a name of its own: a part of what lies behind a field's reference has no proof yet
         let room = &mut *self.bytes;
         room[self.len..to].copy_from_slice(bytes);
         self.len = to;

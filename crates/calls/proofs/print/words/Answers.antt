@@ -1,8 +1,8 @@
 -- `words` puts each number after those before it. Assumes nothing.
-use Rattle.std.proofs.Common.{sym, ◌++◌, ◌∷◌, [], ap, arith, refl, ◌∙◌, take_all, length}
+use Rattle.std.proofs.Common.{◌++◌, ◌∷◌, [], arith, refl, take_all}
 use Rattle.std.proofs.lemmas.List.{take_more}
 use Rattle.std.proofs.lemmas.Slice.Zip.{all_zipped_more}
-use Rattle.calls.specs.Print.{put_word, put_words, put_words_more, put_word_holds}
+use Rattle.calls.specs.Print.{put_words, put_words_next, put_word_holds}
 use Rattle.calls.proofs.print.words.Goals as goal
 
 pub loop-n-init : goal.loop-n-init
@@ -16,9 +16,9 @@ loop-n-preserved g c =
       (
         ns ++ n ∷ [],
         rw (take_more c.args.xs.now c.loop-n.n-index c.n-item.result (omega arith), ← c.n-item.is) (all_zipped_more g.T.Into.converts _ ns c.n-item.result n zipped c.into.ensures),
-        c.unsigned.ensures ∙ ap (put_word n) held ∙ sym (put_words_more ns n c.args.output.now),
+        put_words_next ns c.args.output.now held c.unsigned.ensures (omega arith),
       ),
-      λ h. rw c.unsigned.ensures (put_word_holds n _ (omega (arith, c.into.type_inv))),
+      λ h. rw c.unsigned.ensures (put_word_holds _ _ (omega (arith, c.into.type_inv))),
     )
 
 pub returns : goal.returns
