@@ -1,5 +1,6 @@
 -- What the block of an `Output` holds after what a call answered or left is put. Assumes nothing.
 use Rattle.std.specs.Prelude.{◌≡◌, refl, ℕ, ◌+◌, ◌^◌, ◌<◌, ◌≤◌, ℤ, List, [], ◌∷◌, ◌++◌, length, decimal, Result, Ok, Err}
+use mathlib.Core.List.{foldl, foldl-append}
 use Rattle.std.proofs.Common.{sym, ap₂, ◌∙◌, arith, lit<, length-append, le-leb}
 use Rattle.std.proofs.lemmas.Fmt.{length-decimal-le}
 use Rattle.std.proofs.lemmas.Slice.Zip.{AllZip-long}
@@ -30,21 +31,18 @@ PutAs converts xs held new = (ys : List ℤ) × AllZip converts xs ys × (new �
 -- one number more, put after the others
 pub put_numbers_more : (ys : List ℤ) (y : ℤ) (held : List ℕ) → put_numbers (ys ++ y ∷ []) held ≡ put_number y (put_numbers ys held)
 unfolding put_numbers
-put_numbers_more [] y held = refl
-put_numbers_more (x ∷ ys) y held = put_numbers_more ys y (put_number x held)
+put_numbers_more ys y held = foldl-append (λ before x. put_number x before) held ys (y ∷ [])
 
 -- numbers from 0 up were put one after the other, each with room for its own digits
 unfoldable pub put_words : List ℕ → List ℕ → List ℕ
-put_words [] held = held
-put_words (n ∷ ns) held = put_words ns (put_word n held)
+put_words ns held = foldl (λ before n. put_word n before) held ns
 
 abbrev pub PutWords : {A : Type 0} → (A → ℕ → Type 0) → List A → List ℕ → List ℕ → Type 0
 PutWords converts xs held new = (ns : List ℕ) × AllZip converts xs ns × (new ≡ put_words ns held)
 
 pub put_words_more : (ns : List ℕ) (n : ℕ) (held : List ℕ) → put_words (ns ++ n ∷ []) held ≡ put_word n (put_words ns held)
 unfolding put_words
-put_words_more [] n held = refl
-put_words_more (x ∷ ns) n held = put_words_more ns n (put_word x held)
+put_words_more ns n held = foldl-append (λ before m. put_word m before) held ns (n ∷ [])
 
 -- one number more, told otherwise
 pub put_words_next : (ns : List ℕ) (held : List ℕ) {m n : ℕ} {old new : List ℕ} → old ≡ put_words ns held → new ≡ put_word m old → m ≡ n → new ≡ put_words (ns ++ n ∷ []) held

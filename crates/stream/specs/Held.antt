@@ -1,5 +1,6 @@
 -- What the block of an `Output` holds after bytes are put. Assumes nothing.
 use Rattle.std.specs.Prelude.{◌≡◌, refl, ℕ, ◌≤◌, ◌<◌, pos, drop, get_or, ◌+◌, List, [], ◌∷◌, ◌++◌, length, leb, cond, ℤ}
+use mathlib.Core.List.{foldl}
 use Rattle.std.proofs.Common.{add-one, drop-cons}
 use Rattle.std.proofs.lemmas.List.{drop_all}
 use Rattle.std.specs.Fmt.{signed_decimal}
@@ -22,8 +23,7 @@ put_number x held = room_for 24 held ++ spaced (signed_decimal x)
 
 -- and numbers one after the other
 unfoldable pub put_numbers : List ℤ → List ℕ → List ℕ
-put_numbers [] held = held
-put_numbers (x ∷ xs) held = put_numbers xs (put_number x held)
+put_numbers xs held = foldl (λ before x. put_number x before) held xs
 
 -- the next of them, where there is one
 pub put_numbers_next : (xs : List ℤ) (i : ℕ) (held : List ℕ) → i < length xs

@@ -18,7 +18,12 @@ const ROOM: u64 = 922337203685477580;
 
 // What numbers are read from. A function over any of it is spared the lifetime of a block that is lent.
 pub trait Numbers {
-    fn next(&mut self) -> Option<i64>;
+    // What is left of the block that was read last.
+    ghost left: { Self → List ℕ };
+
+    // The next number: after it white space is next, or nothing is left.
+    fn next(&mut self) -> Option<i64>
+        ensures { IfSome result (λ _. WhiteNext (left self.new)) };
 }
 
 // A reader, the block that was read last, and what is left of it: its bytes from `at` up to, not
@@ -41,6 +46,8 @@ impl<'a, R> Model for Input<'a, R> {
 }
 
 impl<'a, R: Read> Numbers for Input<'a, R> {
+    ghost left = { λ i. i };
+
     fn next(&mut self) -> Option<i64> {
         self.number()
     }

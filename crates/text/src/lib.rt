@@ -14,7 +14,7 @@ use crate::page::Page;
 pub use crate::page::ROOM;
 use filehead::{params, wire_count};
 use gatfile::{CircuitFile, bounds};
-use refusal::{Refusal, refuse_if};
+use refusal::Refusal;
 
 // The lines of all wires.
 fn put_wires(page: &mut Page<'_>, circuit: CircuitFile<'_>, bounds: &[u32])
@@ -61,7 +61,9 @@ pub fn text(file: &[u8], out: &mut [u8]) -> Result<usize, Refusal>
     let mut page = Page::new(&mut room);
     put_text(&mut page, file);
     let text = page.text();
-    refuse_if(out.len() < text.len(), Refusal::Length)?;
+    if out.len() < text.len() {
+        return Err(Refusal::Length);
+    }
     out[..text.len()].copy_from_slice(text);
     Ok(text.len())
 }
