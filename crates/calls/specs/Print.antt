@@ -1,5 +1,5 @@
 -- What the block of an `Output` holds after what a call answered or left is put. Assumes nothing.
-use Rattle.std.specs.Prelude.{◌≡◌, refl, ℕ, ◌+◌, ◌^◌, ◌<◌, ◌≤◌, ℤ, List, [], ◌∷◌, ◌++◌, length, decimal, Result, Ok, Err}
+use Rattle.std.specs.Prelude.{◌≡◌, ℕ, ◌+◌, ◌^◌, ◌<◌, ◌≤◌, ℤ, List, [], ◌∷◌, ◌++◌, length, decimal, Result, Ok, Err}
 use mathlib.Core.List.{foldl, foldl-append}
 use Rattle.std.proofs.Common.{sym, ap₂, ◌∙◌, arith, lit<, length-append, le-leb}
 use Rattle.std.proofs.lemmas.Fmt.{length-decimal-le}

@@ -61,6 +61,7 @@ pub fn text(file: &[u8], out: &mut [u8]) -> Result<usize, Refusal>
     let mut page = Page::new(&mut room);
     put_text(&mut page, file);
     let text = page.text();
+    // by `if`, not as a row by `refuse_if`: an edit can then turn the answer alone
     if out.len() < text.len() {
         return Err(Refusal::Length);
     }
