@@ -16,6 +16,9 @@ const MOST: usize = 65536;
 // of an i64, and still a u64.
 const ROOM: u64 = 922337203685477580;
 
+// The most bytes of a lent block that are used, so that no more are ever left of it.
+const BLOCK: usize = 65536;
+
 // What numbers are read from. A function over any of it is spared the lifetime of a block that is lent.
 pub trait Numbers {
     // What is left of the block that was read last.
@@ -42,7 +45,7 @@ impl<'a, R> Model for Input<'a, R> {
 
     ghost view = { λ i. slice_range i.block.now i.at i.end };
 
-    ghost invariant = { λ i. (i.at ≤ i.end) × (i.end ≤ length i.block.now) };
+    ghost invariant = { λ i. (i.at ≤ i.end) × ((i.end ≤ length i.block.now) × (length i.block.now ≤ 65536)) };
 }
 
 impl<'a, R: Read> Numbers for Input<'a, R> {
@@ -54,13 +57,14 @@ impl<'a, R: Read> Numbers for Input<'a, R> {
 }
 
 impl<'a, R: Read> Input<'a, R> {
-    // Nothing is left of a block that was never read: the first call of `number` reads it.
+    // Nothing is left of a block that was never read: the first call of `number` reads it. Of one above BLOCK bytes so many are used.
     pub fn new(reader: R, block: &'a mut [u8]) -> Input<'a, R>
         ensures { result ≡ [] }
     {
+        let most = block.len().min(BLOCK);
         Input {
             reader,
-            block,
+            block: &mut block[..most],
             at: 0,
             end: 0,
         }

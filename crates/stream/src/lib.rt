@@ -7,3 +7,6 @@ mod output;
 
 pub use input::{Input, Numbers};
 pub use output::{Output, decimal};
+
+#[cfg(test)]
+mod tests;
