@@ -5,6 +5,7 @@ ghost use Rattle.stream.specs.Bounds.{CountIn};
 ghost use Rattle.stream.specs.Sizes.{more as Sizes·more};
 ghost use Rattle.stream.specs.White.{is_white as White·is_white, WhiteNext};
 
+use crate::BLOCK;
 use std::io::{Read, Result};
 use std::marker::Model;
 
@@ -15,9 +16,6 @@ const MOST: usize = 65536;
 // A size that another digit may follow: ten times this, and nine, is just above the largest size
 // of an i64, and still a u64.
 const ROOM: u64 = 922337203685477580;
-
-// The most bytes of a lent block that are used, so that no more are ever left of it.
-const BLOCK: usize = 65536;
 
 // What numbers are read from. A function over any of it is spared the lifetime of a block that is lent.
 pub trait Numbers {
@@ -57,7 +55,8 @@ impl<'a, R: Read> Numbers for Input<'a, R> {
 }
 
 impl<'a, R: Read> Input<'a, R> {
-    // Nothing is left of a block that was never read: the first call of `number` reads it. Of one above BLOCK bytes so many are used.
+    // Nothing is left of a block that was never read: the first call of `number` reads it. Of a block of more
+    // than BLOCK bytes the first BLOCK are used, so that, whatever is lent, no more are ever left.
     pub fn new(reader: R, block: &'a mut [u8]) -> Input<'a, R>
         ensures { result ≡ [] }
     {

@@ -4,12 +4,10 @@ ghost use Rattle.std.specs.Prelude.{◌+◌, ◌≤◌, ◌≡◌, List, ℕ, []
 ghost use Rattle.stream.specs.Bounds.{CountIn};
 ghost use Rattle.stream.specs.Held.{room_for, put, put_number, put_numbers, spaced};
 
+use crate::BLOCK;
 use itoa::Buffer;
 use std::io::Write;
 use std::marker::Model;
-
-// The bytes of the block: an array with its count beside it, for nothing here allocates.
-const BLOCK: usize = 65536;
 
 // The most bytes that a number takes, with its sign and the space after it, and a few more.
 const WIDEST: usize = 24;

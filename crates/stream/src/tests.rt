@@ -15,7 +15,7 @@ impl Read for Asked {
     }
 }
 
-// Of a block above 65,536 bytes so many are used, and a shorter one whole.
+// Of a block of more than 65,536 bytes the first 65,536 are used, and a shorter one whole.
 #[test]
 fn block_used(rt: HostRuntime) {
     let mut asked = Asked { most: 0 };
